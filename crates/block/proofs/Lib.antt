@@ -1,0 +1,3 @@
+mod Texts
+pub mod Words
+pub mod Lists
