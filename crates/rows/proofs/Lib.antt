@@ -1,0 +1,4 @@
+mod Laid
+mod Ascending
+pub mod Slices
+pub mod Meaning

@@ -1,0 +1,114 @@
+// A table: a store over the caller's memory, whose keepers may change their blocks.
+ghost use mathlib.Core.Bool.{true, false};
+ghost use mathlib.Core.Path.{_≡_};
+ghost use Rattle.std.specs.Finite.{nth};
+ghost use Rattle.std.specs.Options.{Cases};
+ghost use Rattle.block.specs.Lists.{mayReplace, mayMark};
+ghost use Rattle.rows.specs.Rows.{startAt};
+ghost use Rattle.rows.specs.Shown.{rowBlocks};
+ghost use Rattle.table.specs.Tables.{planRows, tableShown, table-few, table-kept, TableRest, tableRest};
+use block::idn::Idn;
+use block::view::View;
+use rows::change;
+use rows::plan::Plan;
+use rows::row::State;
+use rows::shown;
+use store::store::Store;
+
+pub struct Table<'p, 'r, 'a> {
+    pub(crate) plan: &'p Plan<'r>,
+    pub(crate) states: &'a mut [State],
+    pub(crate) bytes: &'a mut [u8],
+    // noted once: the lengths in the states fit
+    pub(crate) fits: bool,
+}
+
+impl<'p, 'r, 'a> Table<'p, 'r, 'a> {
+    // A table over rows that were checked; states or memory that do not match them mean no blocks.
+    pub fn new(
+        plan: &'p Plan<'r>,
+        states: &'a mut [State],
+        bytes: &'a mut [u8],
+    ) -> Table<'p, 'r, 'a>
+        ensures { λ r. ⌜ tableShown r ≡ rowBlocks (planRows (now (plan .entry))) (now (states .entry)) (now (bytes .entry)) ⌝ }
+    {
+        let fits = shown::states_fit(plan, states);
+        Table {
+            plan,
+            states,
+            bytes,
+            fits,
+        }
+    }
+
+    // The room for data of this length in the block at a place, if they may replace those it has.
+    fn room_for(&self, place: usize, length: usize) -> Option<change::Room>
+        ensures { λ r. ⌜ Cases r (mayReplace (nth (tableShown (now (self .entry))) place) «length» ≡ false) (λ m. (mayReplace (nth (tableShown (now (self .entry))) place) «length» ≡ true) × (m .start ≡ startAt (planRows (now (now (self .entry) .plan))) place) × (m .length ≡ «length»)) ⌝ }
+    {
+        if self.fits {
+            change::room_for(self.plan, self.states, self.bytes, place, length)
+        } else {
+            None
+        }
+    }
+
+    // Whether the status of the block at a place may be set.
+    fn may_mark(&self, place: usize) -> bool
+        ensures { λ r. ⌜ r ≡ mayMark (nth (tableShown (now (self .entry))) place) ⌝ }
+    {
+        self.fits && change::may_mark(self.plan, self.states, self.bytes, place)
+    }
+}
+
+pub impl<'p, 'r, 'a> Store for Table<'p, 'r, 'a> as TableStore {
+    ghost blocks = { tableShown };
+
+    ghost Rest = { TableRest };
+
+    ghost rest = { tableRest };
+
+    ghost few = { table-few };
+
+    ghost sound = { table-kept };
+
+    fn count(&self) -> usize {
+        if self.fits {
+            shown::count(self.plan, self.states, self.bytes)
+        } else {
+            0
+        }
+    }
+
+    fn find(&self, idn: Idn) -> Option<usize> {
+        if self.fits {
+            shown::find(self.plan, self.states, self.bytes, idn)
+        } else {
+            None
+        }
+    }
+
+    fn block(&self, place: usize) -> Option<View<'_>> {
+        if self.fits {
+            shown::view_at(self.plan, self.states, self.bytes, place)
+        } else {
+            None
+        }
+    }
+
+    fn replace(&mut self, place: usize, bytes: &[u8]) -> bool {
+        let Some(room) = self.room_for(place, bytes.len()) else {
+            return false;
+        };
+        change::write(self.bytes, room.start, bytes);
+        change::resize(self.states, place, room.length);
+        true
+    }
+
+    fn set_status(&mut self, place: usize, status: u16) -> bool {
+        if !self.may_mark(place) {
+            return false;
+        }
+        change::mark(self.states, place, status);
+        true
+    }
+}
