@@ -63,7 +63,7 @@ impl Idn {
     }
 }
 
-impl fmt::Display for Idn as IdnDisplay {
+pub impl fmt::Display for Idn as IdnDisplay {
     ghost shown = { λ i. Some (idnText (i .0)) };
 
     fn fmt<W: fmt::Write>(&self, f: &mut fmt::Formatter<W>) -> fmt::Result {

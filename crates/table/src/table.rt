@@ -15,6 +15,7 @@ use rows::row::State;
 use rows::shown;
 use store::store::Store;
 
+#[derive(Drop)]
 pub struct Table<'p, 'r, 'a> {
     pub(crate) plan: &'p Plan<'r>,
     pub(crate) states: &'a mut [State],
