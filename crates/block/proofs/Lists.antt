@@ -1,12 +1,12 @@
 -- Laws of a list of blocks: one place changed, two lists joined. Assumes nothing.
 use mathlib.Core.Bool.{Bool, true, false, cond, _&&_}
 use mathlib.Core.List.{List, [], _∷_, _++_}
-use mathlib.Core.Path.{_≡_, refl, ap, sym, _∙_}
+use mathlib.Core.Path.{_≡_, refl, ap, sym, subst, _∙_}
 use Prim.Native.Nat.{ℕ, zero, suc, _+_, _-_, _<_, _≤_}
 use native.Mathlib.Nat.{zero-add, suc-add}
 use native.Mathlib.Omega.{arith}
 use lib.Dec.{eqb}
-use lib.ListN.{length, getD}
+use lib.ListN.{length, drop}
 use Rattle.std.specs.Finite.{nth}
 use Rattle.std.specs.Options.{mapped}
 use Rattle.std.specs.declared.option.Option.{Option}
@@ -14,6 +14,9 @@ use Rattle.std.specs.declared.option.Option.the-variants.{Some, None}
 use Rattle.std.proofs.shelf.Tests.{and-parts, and-from}
 use Rattle.block.specs.Blocks.{Block, blockKept}
 use Rattle.block.specs.Lists.{placeOf, allKept, changed}
+
+none≢some : {b : Block} → None ≡ Some b → ⊥
+none≢some e = let z : _≡_ {A = ℕ} 0 1 = cc in omega arith
 
 -- a change keeps the count
 pub length-changed : (bs : List Block) (place : ℕ) (f : Block → Block) → length (changed bs place f) ≡ length bs
@@ -77,3 +80,21 @@ place-append (b ∷ bs) cs idn =
       | true ↦ refl
       | false ↦ ap (mapped suc) (place-append bs cs idn) ∙ mapped-suc-behind (placeOf bs idn) (length bs) (placeOf cs idn)
     ]
+
+-- the block at a place heads what is left from there
+pub nth-drop : (bs : List Block) (i : ℕ) (b : Block) → nth bs i ≡ Some b → drop i bs ≡ b ∷ drop (i + 1) bs
+nth-drop [] i b e = absurd (none≢some e)
+nth-drop (x ∷ bs) zero b e = cc
+nth-drop (x ∷ bs) (suc i) b e = nth-drop bs i b e ∙ rw suc-add
+
+-- a place without a block lies past the end
+pub nth-none : (bs : List Block) (i : ℕ) → nth bs i ≡ None → length bs ≤ i
+nth-none [] i e = omega arith
+nth-none (x ∷ bs) zero e = absurd (none≢some (sym e))
+nth-none (x ∷ bs) (suc i) e = let rest = nth-none bs i e in omega arith
+
+-- every block keeps the block rules
+pub nth-kept : (bs : List Block) (i : ℕ) (b : Block) → allKept bs ≡ true → nth bs i ≡ Some b → blockKept b ≡ true
+nth-kept [] i b kept e = absurd (none≢some e)
+nth-kept (x ∷ bs) zero b kept e = let same : x ≡ b = cc in subst (λ y. blockKept y ≡ true) same (and-parts (blockKept x) (allKept bs) kept .0)
+nth-kept (x ∷ bs) (suc i) b kept e = nth-kept bs i b (and-parts (blockKept x) (allKept bs) kept .1) e

@@ -72,6 +72,13 @@ impl Attribute {
         }
     }
 
+    // Whether the length code is one of lists.
+    pub fn is_list(self) -> bool
+        ensures { λ r. ⌜ r ≡ isList (lengthCode (self .0)) ⌝ }
+    {
+        self.0 / 0x1_0000 % 8 >= 4
+    }
+
     pub fn is_command(self) -> bool
         ensures { λ r. ⌜ r ≡ isCommand (self .0) ⌝ }
     {

@@ -1,0 +1,5 @@
+pub mod Words
+pub mod Changes
+pub mod Names
+pub mod States
+pub mod Steps
