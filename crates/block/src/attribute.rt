@@ -72,6 +72,17 @@ impl Attribute {
         }
     }
 
+    // The bytes of one item of a list, or of the whole fixed data; an unknown code counts as four.
+    pub fn item(self) -> usize
+        ensures { λ r. ⌜ r ≡ itemSize (lengthCode (self .0)) ⌝ }
+    {
+        match self.0 / 0x1_0000 % 8 {
+            4 => 1,
+            1 | 5 => 2,
+            _ => 4,
+        }
+    }
+
     // Whether the length code is one of lists.
     pub fn is_list(self) -> bool
         ensures { λ r. ⌜ r ≡ isList (lengthCode (self .0)) ⌝ }

@@ -44,14 +44,10 @@ fn is_too_long(attribute: Attribute, most: u16, n: u16, k: usize) -> bool
     k > final_word(attribute, n) || (attribute.is_list() && n > most)
 }
 
-// The size of a list's items; an unknown list code counts as one of four bytes.
 fn is_broken(attribute: Attribute, n: u16) -> bool
     ensures { λ r. ⌜ r ≡ isBroken (attribute .0) n ⌝ }
 {
-    let Some(code) = attribute.length_code() else {
-        return attribute.is_list() && n % 4 != 0;
-    };
-    code.is_list() && usize::from(n) % code.item() != 0
+    attribute.is_list() && usize::from(n) % attribute.item() != 0
 }
 
 // The first fault of word k of a write, where n is the list's length.

@@ -119,7 +119,7 @@ impl<S: Store> Service<S> {
     }
 
     // What a write needs to know of the block at a place.
-    pub(crate) fn head_at(&self, place: usize) -> Option<Head>
+    pub fn head_at(&self, place: usize) -> Option<Head>
         ensures { λ r. ⌜ r ≡ mapped headOf (nth (S·Store .blocks (now (self .entry) .store)) place) ⌝ }
     {
         let view = self.store.block(place)?;

@@ -7,7 +7,7 @@ use lib.ListN.{length}
 use Rattle.std.proofs.shelf.Lists.{length-map}
 use Rattle.rows.specs.Rows.{rowIdn}
 use Rattle.rows.proofs.Ascending.{idn-at, place-found, place-none}
-use Rattle.rows.proofs.search.scan.Needs as need
+use Rattle.rows.proofs.finding.scan.Needs as need
 
 pub returns-then-row-idn : need.returns-then-row-idn
 returns-then-row-idn c =

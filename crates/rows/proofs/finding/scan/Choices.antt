@@ -3,7 +3,7 @@ use mathlib.Core.List.{map}
 use mathlib.Core.Path.{_≡_}
 use lib.ListN.{getD}
 use Rattle.rows.specs.Rows.{rowIdn}
-use Rattle.rows.proofs.search.scan.Given as given
+use Rattle.rows.proofs.finding.scan.Given as given
 
 -- no row before has the IDN
 abbrev pub Inv-loop-i : given.InvT-loop-i

@@ -9,7 +9,7 @@ use Rattle.rows.proofs.Laid.{rowAt}
 use Rattle.std.proofs.shelf.Lists.{length-map}
 use Rattle.rows.specs.Rows.{rowIdn}
 use Rattle.rows.proofs.Ascending.{idn-at, place-found, place-none, rows-under, rows-over}
-use Rattle.rows.proofs.search.bisect.Needs as need
+use Rattle.rows.proofs.finding.bisect.Needs as need
 
 pub loop-low-again-then-row-idn : need.loop-low-again-then-row-idn
 loop-low-again-then-row-idn c =

@@ -2,7 +2,7 @@ use Prim.Native.Nat.{ℕ, _-_, _<_, _≤_}
 use mathlib.Core.List.{map}
 use lib.ListN.{getD, length}
 use Rattle.rows.specs.Rows.{rowIdn}
-use Rattle.rows.proofs.search.bisect.Given as given
+use Rattle.rows.proofs.finding.bisect.Given as given
 
 -- the rows below `low` lie under the IDN, those from `high` on do not
 abbrev pub Inv-loop-low : given.InvT-loop-low

@@ -1,0 +1,4 @@
+mod Resets
+mod Raising
+mod Records
+mod Reporting

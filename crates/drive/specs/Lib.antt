@@ -1,0 +1,5 @@
+pub mod Machines
+pub mod Phases
+pub mod Telegrams
+pub mod Answers
+pub mod Reports

@@ -1,0 +1,7 @@
+// The drive over any store: making, phases, telegrams, misses and reports.
+mod answer;
+pub mod drive;
+mod entry;
+mod phases;
+mod report;
+mod telegrams;
