@@ -3,3 +3,4 @@ pub mod Phases
 pub mod Telegrams
 pub mod Answers
 pub mod Reports
+pub mod Making

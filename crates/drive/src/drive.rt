@@ -10,6 +10,7 @@ pub struct Misses {
     pub mdt: bool,
 }
 
+#[derive(Drop)]
 pub struct Drive<S> {
     pub(crate) address: u8,
     pub(crate) phase: Phase,

@@ -2,6 +2,7 @@
 mod answer;
 pub mod drive;
 mod entry;
+mod making;
 mod phases;
 mod report;
 mod telegrams;

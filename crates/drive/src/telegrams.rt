@@ -4,9 +4,8 @@ ghost use lib.ListN.{getD};
 ghost use mathlib.Core.Path.{_≡_};
 ghost use Rattle.block.specs.Numbers.{word};
 ghost use Rattle.channel.specs.Controls.{upperBits};
-ghost use Rattle.service.specs.States.{viewed};
 ghost use Rattle.drive.specs.Machines.{view};
-ghost use Rattle.drive.specs.Telegrams.{mstAnswer, mstAfter, isShared, recordStart, mdtRefusal, recordTaken, mdtTaken, controlOf, mdtAnswer, mdtAfter};
+ghost use Rattle.drive.specs.Telegrams.{mstAnswer, mstAfter, isShared, mdtSize, mdtAddress, recordStart, mdtRefusal, mdtTaken, controlOf, mdtAnswer, mdtAfter};
 use crate::drive::Drive;
 use crate::phases::value_at;
 use block::idn::Idn;
@@ -46,31 +45,26 @@ impl<S: Store> Drive<S> {
         self.phase.number() >= 3
     }
 
-    // Why an MDT is refused.
-    fn mdt_refusal(&self, telegram: &[u8]) -> Option<Refusal>
-        ensures { λ r. ⌜ r ≡ mdtRefusal (view (S·Store .blocks) (now (self .entry))) (now (telegram .entry)) ⌝ }
+    // The bytes that an MDT must have now.
+    pub fn mdt_size(&self) -> usize
+        ensures { λ r. ⌜ r ≡ mdtSize (view (S·Store .blocks) (now (self .entry))) ⌝ }
     {
-        if self.phase.number() == 0 {
-            return Some(Refusal::PhaseZero);
-        }
-        let shared = self.is_shared();
-        let size = if shared {
+        if self.is_shared() {
             1 + usize::from(value_at(&self.service.store, Idn(10)))
         } else {
             5
-        };
-        if telegram.len() != size {
-            return Some(Refusal::Length);
         }
-        let address = if shared { 255 } else { self.address };
-        if byte_at(telegram, 0) != address {
-            return Some(Refusal::Addressee);
-        }
-        None
+    }
+
+    // The address that an MDT must have now.
+    pub fn mdt_address(&self) -> u8
+        ensures { λ r. ⌜ r ≡ mdtAddress (view (S·Store .blocks) (now (self .entry))) ⌝ }
+    {
+        if self.is_shared() { 255 } else { self.address }
     }
 
     // Where the drive's record begins in an MDT.
-    fn record_start(&self) -> usize
+    pub fn record_start(&self) -> usize
         ensures { λ r. ⌜ r ≡ recordStart (view (S·Store .blocks) (now (self .entry))) ⌝ }
     {
         if self.is_shared() {
@@ -78,6 +72,22 @@ impl<S: Store> Drive<S> {
         } else {
             1
         }
+    }
+
+    // Why an MDT is refused.
+    fn mdt_refusal(&self, telegram: &[u8]) -> Option<Refusal>
+        ensures { λ r. ⌜ r ≡ mdtRefusal (view (S·Store .blocks) (now (self .entry))) (now (telegram .entry)) ⌝ }
+    {
+        if self.phase.number() == 0 {
+            return Some(Refusal::PhaseZero);
+        }
+        if telegram.len() != self.mdt_size() {
+            return Some(Refusal::Length);
+        }
+        if byte_at(telegram, 0) != self.mdt_address() {
+            return Some(Refusal::Addressee);
+        }
+        None
     }
 
     // The drive's record in an MDT: a step, a repeat, or in phase 1 the handshake alone.

@@ -3,6 +3,7 @@ ghost use Prim.Native.Nat.{_≤_};
 ghost use lib.ListN.{length};
 ghost use mathlib.Core.Path.{_≡_};
 
+#[derive(Drop)]
 pub struct Kept {
     pub(crate) cells: [u8; 1024],
     // how many bytes are kept

@@ -2,6 +2,7 @@
 use crate::kept::Kept;
 use crate::link::Link;
 
+#[derive(Drop)]
 pub struct Service<S> {
     pub store: S,
     pub mark: bool,

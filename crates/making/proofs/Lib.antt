@@ -1,0 +1,4 @@
+mod Scans
+pub mod Passing
+pub mod Lowest
+mod Examples
