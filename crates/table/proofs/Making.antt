@@ -17,7 +17,7 @@ use Rattle.rows.specs.declared.row.State.{State}
 use Rattle.rows.specs.Rows.{sizeOf, laidOut, startAt}
 use Rattle.rows.specs.Shown.{statesFit, matchedBlocks, rowBlocks, marked, resized, written}
 use Rattle.rows.proofs.Meaning.{states-as-many, matched-marked, matched-written, spare-kept}
-use Rattle.table.specs.Tables.{planRows, shownBlocks}
+use Rattle.table.specs.Tables.{planRows, shownBlocks, Lent}
 
 pub made-means : (p : Plan) (ss : List State) (bytes : List ℕ) (fits : Bool) → fits ≡ statesFit (planRows p) ss
     → shownBlocks fits (planRows p) ss bytes ≡ rowBlocks (planRows p) ss bytes
@@ -55,3 +55,8 @@ pub shown-spare : (fits : Bool) (p : Plan) (ss : List State) (d bytes src : List
 shown-spare true p ss d bytes src i start f g may =
     ap (drop (sizeOf (planRows p))) (f ∙ ap (λ k. written d k src) g) ∙ spare-kept (planRows p) ss d src i (p .laid) may
 shown-spare false p ss d bytes src i start f g may = absurd (false≢true may)
+
+-- all that a table holds, part by part
+pub lent-is : (l m : Lent) → l .plan ≡ m .plan → l .fits ≡ m .fits → l .stateName ≡ m .stateName → l .byteName ≡ m .byteName
+    → l .states ≡ m .states → l .bytes ≡ m .bytes → l ≡ m
+lent-is l m p f s b ss bs = λ i. record { plan = p i; fits = f i; stateName = s i; byteName = b i; states = ss i; bytes = bs i }

@@ -13,8 +13,8 @@ use Rattle.block.specs.Lists.{mostBlocks, allKept}
 use Rattle.rows.specs.declared.plan.Plan.{Plan}
 use Rattle.rows.specs.declared.row.Row.{Row}
 use Rattle.rows.specs.declared.row.State.{State}
-use Rattle.rows.specs.Rows.{sizeOf}
-use Rattle.rows.specs.Shown.{matchedBlocks, nobodys}
+use Rattle.rows.specs.Rows.{sizeOf, startAt}
+use Rattle.rows.specs.Shown.{matchedBlocks, nobodys, marked, resized, written}
 use Rattle.rows.proofs.Meaning.{matched-few, matched-kept}
 use Rattle.table.specs.declared.table.Table.{Table}
 use Rattle.table.specs.declared.catalogue.Catalogue.{Catalogue}
@@ -61,6 +61,26 @@ pub record TableRest : Type 0 where
 
 abbrev pub tableRest : Table → TableRest
 tableRest t = record { plan = now (t .plan); states = name (t .states); bytes = name (t .bytes); spare = drop (sizeOf (planRows (now (t .plan)))) (now (t .bytes)) }
+
+-- all that a table holds: its rows, the note on the lengths, which memory it was lent, and what that holds now
+pub record Lent : Type 0 where
+  pub plan : Plan
+  pub fits : Bool
+  pub stateName : GName
+  pub byteName : GName
+  pub states : List State
+  pub bytes : List ℕ
+
+abbrev pub lentTo : Table → Lent
+lentTo t = record { plan = now (t .plan); fits = t .fits; stateName = name (t .states); byteName = name (t .bytes); states = now (t .states); bytes = now (t .bytes) }
+
+-- after new data at a place: their length in the state, their bytes in the area, and no other byte
+abbrev pub lentReplaced : Lent → ℕ → List ℕ → Lent
+lentReplaced l place bytes = record { plan = l .plan; fits = l .fits; stateName = l .stateName; byteName = l .byteName; states = resized (l .states) place (length bytes); bytes = written (l .bytes) (startAt (planRows (l .plan)) place) bytes }
+
+-- after a new status at a place
+abbrev pub lentMarked : Lent → ℕ → ℕ → Lent
+lentMarked l place status = record { plan = l .plan; fits = l .fits; stateName = l .stateName; byteName = l .byteName; states = marked (l .states) place status; bytes = l .bytes }
 
 -- what changes no part but the keeper keeps count and block rules
 length-nobodys : (bs : List Block) → length (map nobodys bs) ≡ length bs

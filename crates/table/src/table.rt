@@ -1,12 +1,14 @@
 // A table: a store over the caller's memory, whose keepers may change their blocks.
-ghost use mathlib.Core.Bool.{true, false};
+ghost use denote.Ref.{name};
+ghost use lib.ListN.{length};
+ghost use mathlib.Core.Bool.{true, false, cond};
 ghost use mathlib.Core.Path.{_≡_};
 ghost use Rattle.std.specs.Finite.{nth};
 ghost use Rattle.std.specs.Options.{Cases};
-ghost use Rattle.block.specs.Lists.{mayReplace, mayMark};
+ghost use Rattle.block.specs.Lists.{changed, withContent, withStatus, mayReplace, mayMark};
 ghost use Rattle.rows.specs.Rows.{startAt};
-ghost use Rattle.rows.specs.Shown.{rowBlocks};
-ghost use Rattle.table.specs.Tables.{planRows, tableShown, table-few, table-kept, TableRest, tableRest};
+ghost use Rattle.rows.specs.Shown.{rowBlocks, statesFit};
+ghost use Rattle.table.specs.Tables.{planRows, tableShown, table-few, table-kept, TableRest, tableRest, lentTo, lentReplaced, lentMarked};
 use block::idn::Idn;
 use block::view::View;
 use rows::change;
@@ -31,7 +33,8 @@ impl<'p, 'r, 'a> Table<'p, 'r, 'a> {
         states: &'a mut [State],
         bytes: &'a mut [u8],
     ) -> Table<'p, 'r, 'a>
-        ensures { λ r. ⌜ tableShown r ≡ rowBlocks (planRows (now (plan .entry))) (now (states .entry)) (now (bytes .entry)) ⌝ }
+        ensures blocks { λ r. ⌜ tableShown r ≡ rowBlocks (planRows (now (plan .entry))) (now (states .entry)) (now (bytes .entry)) ⌝ }
+        ensures lent { λ r. ⌜ lentTo r ≡ record { plan = now (plan .entry); fits = statesFit (planRows (now (plan .entry))) (now (states .entry)); stateName = name (states .entry); byteName = name (bytes .entry); states = now (states .entry); bytes = now (bytes .entry) } ⌝ }
     {
         let fits = shown::states_fit(plan, states);
         Table {
@@ -96,7 +99,12 @@ pub impl<'p, 'r, 'a> Store for Table<'p, 'r, 'a> as TableStore {
         }
     }
 
-    fn replace(&mut self, place: usize, bytes: &[u8]) -> bool {
+    fn replace(&mut self, place: usize, bytes: &[u8]) -> bool
+        ensures value { λ r. ⌜ r ≡ mayReplace (nth (tableShown (now (self .entry))) place) (length (now (bytes .entry))) ⌝ }
+        ensures after { λ r. ⌜ tableShown (now (self .exit)) ≡ cond r (changed (tableShown (now (self .entry))) place (withContent (now (bytes .entry)))) (tableShown (now (self .entry))) ⌝ }
+        ensures rest { λ _. ⌜ tableRest (now (self .exit)) ≡ tableRest (now (self .entry)) ⌝ }
+        ensures lent { λ r. ⌜ lentTo (now (self .exit)) ≡ cond r (lentReplaced (lentTo (now (self .entry))) place (now (bytes .entry))) (lentTo (now (self .entry))) ⌝ }
+    {
         let Some(room) = self.room_for(place, bytes.len()) else {
             return false;
         };
@@ -105,7 +113,12 @@ pub impl<'p, 'r, 'a> Store for Table<'p, 'r, 'a> as TableStore {
         true
     }
 
-    fn set_status(&mut self, place: usize, status: u16) -> bool {
+    fn set_status(&mut self, place: usize, status: u16) -> bool
+        ensures value { λ r. ⌜ r ≡ mayMark (nth (tableShown (now (self .entry))) place) ⌝ }
+        ensures after { λ r. ⌜ tableShown (now (self .exit)) ≡ cond r (changed (tableShown (now (self .entry))) place (withStatus status)) (tableShown (now (self .entry))) ⌝ }
+        ensures rest { λ _. ⌜ tableRest (now (self .exit)) ≡ tableRest (now (self .entry)) ⌝ }
+        ensures lent { λ r. ⌜ lentTo (now (self .exit)) ≡ cond r (lentMarked (lentTo (now (self .entry))) place status) (lentTo (now (self .entry))) ⌝ }
+    {
         if !self.may_mark(place) {
             return false;
         }

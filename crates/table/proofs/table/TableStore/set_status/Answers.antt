@@ -3,7 +3,7 @@ use mathlib.Core.Path.{_≡_, refl, sym}
 use Rattle.std.specs.Finite.{nth}
 use Rattle.block.specs.Lists.{mayMark}
 use Rattle.table.specs.Tables.{tableShown}
-use Rattle.table.proofs.Making.{shown-marked}
+use Rattle.table.proofs.Making.{shown-marked, lent-is}
 use Rattle.table.proofs.table.TableStore.set_status.Needs as need
 
 pub returns : need.returns
@@ -14,4 +14,5 @@ returns c =
       value = sym may;
       after = shown-marked (t .fits) (t .plan .now) (t .states .now) (c .mark .last .states) (t .bytes .now) (c .args .place) (c .args .status) (c .mark .ensures) may;
       rest = refl;
+      lent = lent-is _ _ refl refl refl refl (c .mark .ensures) refl;
     }
