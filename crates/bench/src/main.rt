@@ -1,4 +1,6 @@
 // The bench: telegrams as lines of text against a drive with just the demanded blocks.
+#![tactic(auto)]
+
 mod blocks;
 mod line;
 

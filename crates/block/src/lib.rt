@@ -1,4 +1,6 @@
 // The data block: IDN, keeper, attribute, limits, and what the rules ask of them.
+#![tactic(auto)]
+
 pub mod attribute;
 pub mod idn;
 pub mod keeper;

@@ -1,4 +1,6 @@
 // The drive over any store: making, phases, telegrams, misses and reports.
+#![tactic(auto)]
+
 mod answer;
 pub mod drive;
 mod entry;

@@ -1,4 +1,6 @@
 // Exchanges with a drive, word by word; each is proved and then run.
+#![tactic(auto)]
+
 #[cfg(test)]
 mod answers;
 #[cfg(test)]

@@ -1,4 +1,6 @@
 // Two stores of any make as one store: the blocks of the first, then those of the second.
+#![tactic(auto)]
+
 ghost use Rattle.std.specs.Prelude.{◌≡◌, List};
 ghost use Rattle.block.specs.Blocks.{Block};
 ghost use Rattle.joined.specs.Bounds.{joined_few, joined_sound};

@@ -1,4 +1,6 @@
 // The check that a store passes before a drive is made over it.
+#![tactic(auto)]
+
 ghost use Rattle.std.specs.Prelude.{◌≡◌};
 ghost use Rattle.making.specs.Making.{making_verdict};
 

@@ -1,4 +1,6 @@
 // Builds a store of three joined parts, lists it, changes it, and lists what changed.
+#![tactic(auto)]
+
 mod line;
 mod sample;
 mod words;

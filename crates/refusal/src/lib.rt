@@ -1,4 +1,6 @@
 // Why a call is refused. A refused call changes nothing.
+#![tactic(auto)]
+
 ghost use Rattle.std.specs.Prelude.{◌≡◌};
 ghost use Rattle.refusal.specs.Refusals.{cause_number, refusal_number, refused_idn};
 

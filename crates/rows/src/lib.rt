@@ -1,4 +1,6 @@
 // Rows of blocks over lent memory: checked once, then read and changed in constant time.
+#![tactic(auto)]
+
 pub mod change;
 mod finding;
 mod layout;

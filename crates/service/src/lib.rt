@@ -1,4 +1,6 @@
 // The service channel over any store: steps, transfers, commands and checks.
+#![tactic(auto)]
+
 mod active;
 pub mod changes;
 pub mod checks;

@@ -1,4 +1,6 @@
 // Examples of what the blocks and the stores do; each is proved and then run.
+#![tactic(auto)]
+
 #[cfg(test)]
 mod attributes;
 #[cfg(test)]

@@ -1,3 +1,5 @@
 // Stores over memory that the caller lends: tables that change, catalogues that do not.
+#![tactic(auto)]
+
 pub mod catalogue;
 pub mod table;
