@@ -11,4 +11,4 @@ returns-then-place-rows c =
 pub returns : goal.returns
 returns c =
     let t : is_matched c.args.plan.now.rows.now c.args.states.now c.args.bytes.now ≡ true = search rules in
-    c.may-change.ensures ∙ ap may_mark (sym (matched_nth c.args.plan.now.rows.now c.args.states.now c.args.bytes.now c.args.place t (omega arith)))
+    c.may_change.ensures ∙ ap may_mark (sym (matched_nth c.args.plan.now.rows.now c.args.states.now c.args.bytes.now c.args.place t (omega arith)))

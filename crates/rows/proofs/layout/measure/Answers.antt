@@ -4,10 +4,10 @@ use Rattle.std.proofs.lemmas.Bool.Decides.{nat_tests}
 use Rattle.rows.specs.Rows.{laid_from, size_of, row_kept, area_of}
 use Rattle.rows.proofs.Laid.{row_at, laid_more, size_more, area_small}
 use Rattle.rows.proofs.layout.measure.Goals as goal
-use Rattle.rows.proofs.layout.measure.Goals.{then-row-from-via-then-row-from, then-row-from-via-else-row-from+then-not-row-kept}
+use Rattle.rows.proofs.layout.measure.Goals.{then-row-from-via-then-row-from, then-row-from-via-else-row-from+then-not-row_kept}
 
-pub overflow-add-from : goal.overflow-add-from
-overflow-add-from c =
+pub overflow_add-from : goal.overflow_add-from
+overflow_add-from c =
     let kept : row_kept (row_at c.args.rows.now c.loop-i.i) ≡ true = search rules in
     let small = area_small (row_at c.args.rows.now c.loop-i.i) kept in
     search rules
@@ -15,7 +15,7 @@ overflow-add-from c =
 pub returns-then-row-from : goal.returns-then-row-from
 returns-then-row-from c =
     let more = laid_more c.args.rows.now c.loop-i.i c.loop-i.from c.loop-i-test.true in
-    elim c.then-row-from.branch [ then-row-from-via-then-row-from w ↦ grind (arith, nat_tests) | then-row-from-via-else-row-from+then-not-row-kept w ↦ grind (arith, nat_tests) ]
+    elim c.then-row-from.branch [ then-row-from-via-then-row-from w ↦ grind (arith, nat_tests) | then-row-from-via-else-row-from+then-not-row_kept w ↦ grind (arith, nat_tests) ]
 
 pub loop-i-preserved : goal.loop-i-preserved
 loop-i-preserved c =

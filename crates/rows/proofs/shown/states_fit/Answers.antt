@@ -12,8 +12,8 @@ returns-then-states-rows c =
     (λ f. sym f)
     (cases_Bool (states_fit c.args.plan.now.rows.now c.args.states.now))
 
-pub returns-then-not-length-fits : goal.returns-then-not-length-fits
-returns-then-not-length-fits c =
+pub returns-then-not-length_fits : goal.returns-then-not-length_fits
+returns-then-not-length_fits c =
     let more = states_more c.args.plan.now.rows.now c.args.states.now c.loop-i.i c.loop-i-test.true (omega arith) in
     grind (arith, nat_tests)
 

@@ -4,8 +4,8 @@ use Rattle.block.specs.Values.{idn_known, idns_known}
 use Rattle.block.proofs.Words.{words_more, words_none}
 use Rattle.store.proofs.value.idns_known.Goals as goal
 
-pub returns-then-not-idn-known : goal.returns-then-not-idn-known
-returns-then-not-idn-known g c =
+pub returns-then-not-idn_known : goal.returns-then-not-idn_known
+returns-then-not-idn_known g c =
     let within : c.loop-i.i + 1 < length c.args.bytes.now = omega arith in
     let blocks = g.S.Store.blocks c.args.store.now in
     let more = ap (idns_known blocks) (words_more c.args.bytes.now c.loop-i.i within) in
