@@ -4,20 +4,20 @@ use Rattle.making.specs.Rules.{attribute_fits}
 use Rattle.making.proofs.Scans.{nth_within, failing_here, failing_next, failing_none}
 use Rattle.making.proofs.rules.first_bad_attribute.Goals as goal
 
-pub returns-in-default : goal.returns-in-default
-returns-in-default g c =
+pub returns-in_default : goal.returns-in_default
+returns-in_default g c =
     let blocks = g.S.Store.blocks c.args.store.now in
-    absurd (nth_within blocks c.loop-place.place c.in-default.ensures (omega arith))
+    absurd (nth_within blocks c.loop-place.place c.in_default.ensures (omega arith))
 
-pub returns-then-not-attribute-fits : goal.returns-then-not-attribute-fits
-returns-then-not-attribute-fits g c =
+pub returns-then-not-attribute_fits : goal.returns-then-not-attribute_fits
+returns-then-not-attribute_fits g c =
     let blocks = g.S.Store.blocks c.args.store.now in
-    failing_here attribute_fits blocks c.loop-place.place c.loop-place.invariant (seen c.in-Some.view) c.in-Some.ensures c.if-not-attribute-fits.ensures
+    failing_here attribute_fits blocks c.loop-place.place c.loop-place.invariant (seen c.in-Some.view) c.in-Some.ensures c.if-not-attribute_fits.ensures
 
 pub loop-place-preserved : goal.loop-place-preserved
 loop-place-preserved g c =
     let blocks = g.S.Store.blocks c.args.store.now in
-    failing_next attribute_fits blocks c.loop-place.place c.loop-place.invariant (seen c.in-Some.view) c.in-Some.ensures c.if-not-attribute-fits.ensures
+    failing_next attribute_fits blocks c.loop-place.place c.loop-place.invariant (seen c.in-Some.view) c.in-Some.ensures c.if-not-attribute_fits.ensures
 
 pub returns : goal.returns
 returns g c =

@@ -3,10 +3,10 @@ use Rattle.block.specs.Blocks.{seen}
 use Rattle.making.proofs.Scans.{nth_within, unordered_here, unordered_next, unordered_none}
 use Rattle.making.proofs.rules.first_unordered.Goals as goal
 
-pub returns-in-default : goal.returns-in-default
-returns-in-default g c =
+pub returns-in_default : goal.returns-in_default
+returns-in_default g c =
     let blocks = g.S.Store.blocks c.args.store.now in
-    absurd (nth_within blocks c.loop-place.place c.in-default.ensures (omega arith))
+    absurd (nth_within blocks c.loop-place.place c.in_default.ensures (omega arith))
 
 pub returns-then-view-before : goal.returns-then-view-before
 returns-then-view-before g c =

@@ -15,12 +15,12 @@ loop-i-preserved g c =
     let w = c.from.result + 256 * c.from-in-loop-i.result in
     let in' : i + 1 < length e = omega arith in
     let is : w ≡ word (get_or e i 0) (get_or e (i + 1) 0) = search rules in
-    let room : length (kept_bytes c.loop-i.names) + 2 ≤ kept_most = omega (arith, c.loop-i.invariant.1, c.requires.0) in
+    let room : length (kept_bytes c.loop-i.names) + 2 ≤ kept_most = omega (arith, c.loop-i.invariant.1, c.requires.entries_len_bound) in
     let k = kept_bytes c.loop-i.names in
-    let k' = kept_bytes c.push-if.new.names in (
+    let k' = kept_bytes c.push_if.new.names in (
       omega arith,
-      omega (arith, entry_length bs e i w k k' c.is-to-name-named.result in' is c.is-to-name-named.ensures room c.push-if.ensures, c.loop-i.invariant.1),
-      entry_named bs e i w k k' c.is-to-name-named.result in' is c.is-to-name-named.ensures room c.push-if.ensures _ c.loop-i.invariant.2,
+      omega (arith, entry_length bs e i w k k' c.is_to_name-named.result in' is c.is_to_name-named.ensures room c.push_if.ensures, c.loop-i.invariant.1),
+      entry_named bs e i w k k' c.is_to_name-named.result in' is c.is_to_name-named.ensures room c.push_if.ensures _ c.loop-i.invariant.2,
     )
 
 pub returns : goal.returns

@@ -9,8 +9,8 @@ returns g c =
     let bs = g.S.Store.blocks s.store in
     let found = c.in-Some.ensures in
     record {
-      cases = check_ended (check_of c.args.idn.0 bs) bs s.mark c.args.place c.in-Some.list.0 (kept_bytes c.run-check.new.kept)
-          (stock_of (viewed g.S.Store.blocks s)) (stock_of (viewed g.S.Store.blocks c.end-check.new.self))
-          found.list found.names c.end-check.ensures.blocks c.end-check.ensures.mark;
-      link = c.end-check.ensures.link;
+      cases = check_ended (check_of c.args.idn.0 bs) bs s.mark c.args.place c.in-Some.list.0 (kept_bytes c.run_check.new.kept)
+          (stock_of (viewed g.S.Store.blocks s)) (stock_of (viewed g.S.Store.blocks c.end_check.new.self))
+          found.list found.names c.end_check.ensures.blocks c.end_check.ensures.mark;
+      link = c.end_check.ensures.link;
     }

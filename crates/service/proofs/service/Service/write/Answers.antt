@@ -9,6 +9,6 @@ use Rattle.service.proofs.service.Service.write.Goals as goal
 pub returns : goal.returns
 returns g c =
     let s = viewed g.S.Store.blocks c.args.self.now in
-    c.write-block.ensures
+    c.write_block.ensures
     ∙ with_head s c.args.ahs (slice_get (g.S.Store.blocks c.args.self.now.store) c.args.place) c.in-Some.head
     (λ h. write_step (phase_number c.args.phase) c.args.out s c.args.ahs c.args.place h c.args.last c.args.info) c.in-Some.ensures

@@ -9,13 +9,13 @@ pub returns-then-last : goal.returns-then-last
 returns-then-last g c =
     let h = c.args.head in
     write_last (phase_number c.args.phase) c.args.out (viewed g.S.Store.blocks c.args.self.now) c.args.ahs c.args.place h c.args.last
-    c.args.info c.next-word-k.result c.written-length-n.result (kept_bytes c.drop-others.new.kept) (kept_bytes c.push.new.self) _
-    c.next-word-k.ensures c.drop-others.ensures c.written-length-n.ensures
-    (c.in-default.ensures ∙ ap (λ t. write_rule h.keeper t h.attribute.0 h.most c.written-length-n.result c.next-word-k.result c.args.last) c.is-locked-locked.ensures)
+    c.args.info c.next_word-k.result c.written_length-n.result (kept_bytes c.drop_others.new.kept) (kept_bytes c.push.new.self) _
+    c.next_word-k.ensures c.drop_others.ensures c.written_length-n.ensures
+    (c.in_default.ensures ∙ ap (λ t. write_rule h.keeper t h.attribute.0 h.most c.written_length-n.result c.next_word-k.result c.args.last) c.is_locked-locked.ensures)
     c.if-last.true c.push.ensures c.finish.ensures
 
-pub overflow-cast-transfer : goal.overflow-cast-transfer
-overflow-cast-transfer g c =
+pub overflow_cast-transfer : goal.overflow_cast-transfer
+overflow_cast-transfer g c =
     let h = c.args.head in
-    let few : c.next-word-k.result ≤ 40000 = write_few h.keeper c.is-locked-locked.result h.attribute.0 h.most c.written-length-n.result c.next-word-k.result c.args.last c.in-default.ensures c.written-length-n.type-inv in
+    let few : c.next_word-k.result ≤ 40000 = write_few h.keeper c.is_locked-locked.result h.attribute.0 h.most c.written_length-n.result c.next_word-k.result c.args.last c.in_default.ensures c.written_length-n.type_inv in
     search rules

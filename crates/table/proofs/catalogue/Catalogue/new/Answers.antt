@@ -4,4 +4,4 @@ use Rattle.table.proofs.Making.{made_means}
 use Rattle.table.proofs.catalogue.Catalogue.new.Goals as goal
 
 pub returns : goal.returns
-returns c = ap (map nobodys) (made_means c.args.plan.now c.args.states.now c.args.bytes.now c.states-fit-fits.result c.states-fit-fits.ensures)
+returns c = ap (map nobodys) (made_means c.args.plan.now c.args.states.now c.args.bytes.now c.states_fit-fits.result c.states_fit-fits.ensures)

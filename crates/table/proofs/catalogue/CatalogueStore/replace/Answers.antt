@@ -7,7 +7,7 @@ pub returns : goal.returns
 returns c =
     let t = c.args.self.now in
     record {
-      value = sym (never_replaced (shown_blocks t.fits (plan_rows t.plan.now) t.states.now t.bytes.now) c.args.-place (length c.args.-bytes.now));
+      value = sym (never_replaced (shown_blocks t.fits (plan_rows t.plan.now) t.states.now t.bytes.now) c.args._place (length c.args._bytes.now));
       after = refl;
       rest = refl;
     }

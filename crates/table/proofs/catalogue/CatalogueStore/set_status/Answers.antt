@@ -7,7 +7,7 @@ pub returns : goal.returns
 returns c =
     let t = c.args.self.now in
     record {
-      value = sym (never_marked (shown_blocks t.fits (plan_rows t.plan.now) t.states.now t.bytes.now) c.args.-place);
+      value = sym (never_marked (shown_blocks t.fits (plan_rows t.plan.now) t.states.now t.bytes.now) c.args._place);
       after = refl;
       rest = refl;
     }

@@ -8,7 +8,7 @@ use Rattle.table.proofs.table.TableStore.set_status.Goals as goal
 pub returns : goal.returns
 returns c =
     let t = c.args.self.now in
-    let may : may_mark (slice_get (table_shown t) c.args.place) ≡ true = sym c.if-not-may-mark.ensures in
+    let may : may_mark (slice_get (table_shown t) c.args.place) ≡ true = sym c.if-not-may_mark.ensures in
     record {
       value = sym may;
       after = shown_marked t.fits t.plan.now t.states.now c.mark.new.states t.bytes.now c.args.place c.args.status c.mark.ensures may;
