@@ -5,16 +5,16 @@ use Rattle.drive.specs.Answers.{any_ended}
 use Rattle.drive.proofs.Records.{ended_more}
 use Rattle.drive.proofs.answer.any_ended.Goals as goal
 
-pub returns-then-has-ended-at : goal.returns-then-has-ended-at
-returns-then-has-ended-at g c =
+pub returns-then-has_ended_at : goal.returns-then-has_ended_at
+returns-then-has_ended_at g c =
     let more = ended_more (g.S.Store.blocks c.args.store.now) c.loop-place.place (omega arith) in
-    let here = c.if-has-ended-at.ensures in
+    let here = c.if-has_ended_at.ensures in
     grind (arith, nat_tests)
 
 pub loop-place-preserved : goal.loop-place-preserved
 loop-place-preserved g c =
     let more = ended_more (g.S.Store.blocks c.args.store.now) c.loop-place.place (omega arith) in
-    let here = c.if-has-ended-at.ensures in
+    let here = c.if-has_ended_at.ensures in
     grind (arith, nat_tests)
 
 pub returns : goal.returns

@@ -10,8 +10,8 @@ returns g c =
     let t : List ℕ = c.args.telegram.now in
     let part : List ℕ = take (length t - c.min-start.result) (drop c.min-start.result t) in
     let is : part ≡ record_of m t =
-    part_is t c.record-start.result c.min-start.result c.min-start.ensures ∙ ap (λ k. drop k t) c.record-start.ensures in
+    part_is t c.record_start.result c.min-start.result c.min-start.ensures ∙ ap (λ k. drop k t) c.record_start.ensures in
     record {
-      answer = answer_is m t part c.take-record.result c.in-default.ensures is c.take-record.ensures.answer;
-      after = after_is m (view g.S.Store.blocks c.take-record.new.self) t part c.in-default.ensures is c.take-record.ensures.after;
+      answer = answer_is m t part c.take_record.result c.in_default.ensures is c.take_record.ensures.answer;
+      after = after_is m (view g.S.Store.blocks c.take_record.new.self) t part c.in_default.ensures is c.take_record.ensures.after;
     }
