@@ -1,5 +1,5 @@
 -- The bench's drive, and its exchanges by the rules of the drive. Assumes nothing.
-use Rattle.std.specs.Prelude.{ℕ, ◌+◌, ◌-◌, Bool, true, false, cond, List, [], ◌∷◌, ◌++◌, length, replicate, Some, None, Option}
+use Rattle.std.specs.Prelude.{ℕ, ◌-◌, List, [], ◌∷◌, ◌++◌, replicate, Some, None, Option}
 use Rattle.std.proofs.Math.Seq.{paste}
 use Rattle.refusal.specs.declared.Refusal.{Refusal}
 use Rattle.refusal.specs.Refusals.{refusal_number}
@@ -8,7 +8,7 @@ use Rattle.block.specs.declared.keeper.Keeper.TheVariants.{Master, Drive, Channe
 use Rattle.block.specs.declared.limits.Limits.{Limits}
 use Rattle.block.specs.Blocks.{Block}
 use Rattle.service.specs.Words.{bytes_of}
-use Rattle.drive.specs.Machines.{Machine, made}
+use Rattle.drive.specs.Machines.{Machine}
 use Rattle.drive.specs.Telegrams.{mst_refusal, mst_after, mdt_size, mdt_address, record_start, mdt_refusal, mdt_after}
 use Rattle.drive.specs.Answers.{at_refusal, status_word}
 use Rattle.bench.specs.declared.line.Line.{Line}

@@ -1,5 +1,5 @@
 -- The attribute of a data block, bit by bit, and the rules that it keeps. Assumes nothing.
-use Rattle.std.specs.Prelude.{ℕ, ◌/◌, ◌%◌, Bool, true, false, cond, not, ◌&&◌, ◌||◌, ◌==◌, nat_le}
+use Rattle.std.specs.Prelude.{ℕ, ◌/◌, ◌%◌, Bool, false, cond, not, ◌&&◌, ◌||◌, ◌==◌, nat_le}
 use Rattle.block.specs.Numbers.{bit}
 use Rattle.block.specs.declared.attribute.LengthCode.{LengthCode}
 use Rattle.block.specs.declared.attribute.LengthCode.TheVariants.{TwoBytes, FourBytes, ByteList, WordList, LongList}

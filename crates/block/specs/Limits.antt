@@ -1,7 +1,7 @@
 -- Limits: kept in the block's own encoding, compared as the type says. Assumes nothing.
-use Rattle.std.specs.Prelude.{ℕ, ◌-◌, ◌*◌, ◌^◌, Bool, true, false, cond, not, ◌&&◌, ◌||◌, ℤ, pos, ◌-ℤ◌, Some, None, Option, ◌==◌, int_lt, nat_le, nat_lt}
+use Rattle.std.specs.Prelude.{ℕ, ◌*◌, Bool, true, cond, not, ◌&&◌, ◌||◌, ℤ, pos, ◌-ℤ◌, Some, None, Option, ◌==◌, int_lt, nat_le, nat_lt}
 use Rattle.block.specs.declared.limits.Limits.{Limits}
-use Rattle.block.specs.Attributes.{length_code, type_code, item_size}
+use Rattle.block.specs.Attributes.{length_code, type_code}
 
 -- how many patterns fixed data of this attribute have: 2 to the power of 16 or 32
 abbrev pub patterns : ℕ → ℕ

@@ -1,5 +1,5 @@
 -- Numbers as bytes: low byte first, in words of two bytes. Assumes nothing.
-use Rattle.std.specs.Prelude.{ℕ, ◌+◌, ◌*◌, ◌/◌, ◌%◌, Bool, cond, List, [], ◌∷◌, ◌==◌, slice_index}
+use Rattle.std.specs.Prelude.{ℕ, ◌+◌, ◌*◌, ◌/◌, ◌%◌, Bool, List, [], ◌∷◌, ◌==◌, slice_index}
 
 -- the bit pattern of fixed data: up to four bytes, low byte first; a missing byte counts 0
 abbrev pub pattern : List ℕ → ℕ

@@ -1,5 +1,5 @@
 -- The one check of a value, which writes, reports and making share. Assumes nothing.
-use Rattle.std.specs.Prelude.{ℕ, Bool, true, false, cond, not, ◌&&◌, ◌||◌, List, [], ◌∷◌, is_some, Some, None, Option, ◌==◌}
+use Rattle.std.specs.Prelude.{ℕ, Bool, true, cond, not, ◌&&◌, ◌||◌, List, [], ◌∷◌, is_some, Some, None, Option, ◌==◌}
 use Rattle.block.specs.declared.limits.Limits.{Limits}
 use Rattle.block.specs.declared.value.ValueFault.{ValueFault}
 use Rattle.block.specs.declared.value.ValueFault.TheVariants.{TooLow, TooHigh, UnknownIdn}

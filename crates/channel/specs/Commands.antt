@@ -1,5 +1,5 @@
 -- Procedure commands: the words that the master writes, and the status that follows. Assumes nothing.
-use Rattle.std.specs.Prelude.{ℕ, Bool, true, false, cond, not, ◌&&◌, ◌||◌, Ok, Err, Result, ◌==◌}
+use Rattle.std.specs.Prelude.{ℕ, Bool, true, cond, not, ◌||◌, Ok, Err, Result, ◌==◌}
 use Rattle.channel.specs.declared.code.Digit.{Digit}
 use Rattle.channel.specs.declared.code.Digit.TheVariants.{Locked, Wrong}
 

@@ -1,5 +1,5 @@
 -- The five timing rules, and the timings that S-0-0127 names. Assumes nothing.
-use Rattle.std.specs.Prelude.{ℕ, ◌+◌, ◌%◌, Bool, true, false, cond, not, ◌&&◌, ◌||◌, List, [], ◌∷◌, ◌++◌, is_some, Some, None, Option, ◌==◌, nat_le, nat_lt}
+use Rattle.std.specs.Prelude.{ℕ, ◌+◌, ◌%◌, Bool, false, cond, not, ◌&&◌, ◌||◌, List, [], ◌∷◌, ◌++◌, is_some, Some, None, Option, ◌==◌, nat_le, nat_lt}
 use Rattle.channel.specs.declared.timing.Timings.{Timings}
 
 -- (1) the ring's cycle time is 62, 125, or a multiple of 250 from 250 to 65,500

@@ -1,5 +1,5 @@
 -- The record of an accepted MDT. Assumes nothing.
-use Rattle.std.proofs.Common.{◌≡◌, ℕ, ◌+◌, ◌-◌, ◌<◌, ◌≤◌, min, ◌||◌, List, length, take, drop, Some, None, Ok, Option, sym, refl, ap, ◌∙◌, ⊎_elim, arith}
+use Rattle.std.proofs.Common.{◌≡◌, ℕ, ◌+◌, ◌-◌, ◌<◌, min, ◌||◌, List, length, take, drop, Some, None, Ok, Option, sym, refl, ap, ◌∙◌, ⊎_elim, arith}
 use Rattle.std.specs.List.{slice_get}
 use Rattle.block.specs.Blocks.{Block}
 use Rattle.block.proofs.Lists.{nth_drop, nth_none}
@@ -8,7 +8,7 @@ use Rattle.std.proofs.lemmas.List.{drop_all, take_rest}
 use Rattle.std.proofs.lemmas.Bool.{cases_lt}
 use Rattle.channel.specs.Controls.{upper_bits}
 use Rattle.drive.specs.Machines.{Machine}
-use Rattle.drive.specs.Telegrams.{unless_refused, after_unless, mdt_refusal, record_of, record_start, control_of, mdt_taken, mdt_answer, mdt_after}
+use Rattle.drive.specs.Telegrams.{unless_refused, after_unless, mdt_refusal, record_of, control_of, mdt_taken, mdt_answer, mdt_after}
 
 -- the part that is handed on, also where the record would begin past the end
 pub part_is : (t : List ℕ) (start from : ℕ) → from ≡ min start (length t) → take (length t - from) (drop from t) ≡ drop start t

@@ -1,12 +1,10 @@
 -- The whole of a drive: address, phase, service channel over its blocks, misses, and the order that is out. Assumes nothing.
-use Rattle.std.specs.Prelude.{ℕ, ◌+◌, ◌*◌, ◌/◌, ◌%◌, Bool, true, false, cond, ◌&&◌, eqb, List, [], ◌∷◌, map, Some, None, Option}
+use Rattle.std.specs.Prelude.{ℕ, ◌%◌, false, List, [], Some, None, Option}
 use Rattle.block.specs.declared.idn.Idn.{Idn}
 use Rattle.block.specs.declared.phase.Phase.{Phase}
 use Rattle.block.specs.declared.phase.Phase.TheVariants.{Zero}
 use Rattle.block.specs.Numbers.{pattern}
-use Rattle.block.specs.Attributes.{is_command}
-use Rattle.block.specs.Blocks.{Block, is_kept, length_fits}
-use Rattle.block.specs.Lists.{with_content, with_status}
+use Rattle.block.specs.Blocks.{Block}
 use Rattle.service.specs.declared.link.Link.{Link}
 use Rattle.service.specs.States.{State, viewed}
 use Rattle.service.specs.Names.{block_of}

@@ -1,5 +1,5 @@
 -- Phases: what an MST, a miss and the entry into a phase do. Assumes nothing.
-use Rattle.std.specs.Prelude.{ℕ, ◌+◌, ◌*◌, ◌/◌, ◌%◌, Bool, true, false, cond, not, ◌&&◌, ◌||◌, List, [], ◌∷◌, map, length, Some, None, Option, ◌==◌, nat_le, nat_lt}
+use Rattle.std.specs.Prelude.{ℕ, ◌+◌, ◌*◌, ◌/◌, ◌%◌, Bool, true, false, cond, ◌&&◌, List, [], ◌∷◌, map, Some, None, Option, ◌==◌, nat_le, nat_lt}
 use Rattle.block.specs.declared.phase.Phase.{Phase}
 use Rattle.block.specs.declared.phase.Phase.TheVariants.{Zero, One, Two, Three, Four}
 use Rattle.block.specs.Numbers.{bit}

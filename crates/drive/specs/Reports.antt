@@ -1,5 +1,5 @@
 -- Reports of the drive's firmware: which are refused, and what the others do. Assumes nothing.
-use Rattle.std.specs.Prelude.{ℕ, ◌+◌, ◌/◌, ◌%◌, Bool, true, false, cond, not, ◌&&◌, ◌||◌, List, [], ◌∷◌, length, Some, None, Option, Result, ◌==◌, nat_lt}
+use Rattle.std.specs.Prelude.{ℕ, ◌+◌, ◌/◌, ◌%◌, Bool, true, false, cond, not, ◌&&◌, List, [], ◌∷◌, length, Some, None, Option, Result, ◌==◌, nat_lt}
 use Rattle.std.specs.Int.Count.{count_trailing_zeros}
 use Rattle.std.specs.List.{slice_get}
 use Rattle.refusal.specs.declared.Cause.{Cause}
@@ -19,7 +19,7 @@ use Rattle.block.specs.Values.{value_fault}
 use Rattle.channel.specs.Writes.{is_timing}
 use Rattle.service.specs.declared.link.Head.{Head}
 use Rattle.service.specs.Changes.{accepted, accepted_at}
-use Rattle.service.specs.States.{State, head_of}
+use Rattle.service.specs.States.{head_of}
 use Rattle.drive.specs.Machines.{Machine}
 use Rattle.drive.specs.Telegrams.{unless_refused, after_unless}
 

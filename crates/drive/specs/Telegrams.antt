@@ -1,11 +1,10 @@
 -- The telegrams of the master: which are refused, and what the others do. Assumes nothing.
-use Rattle.std.specs.Prelude.{ℕ, ◌+◌, Bool, true, false, cond, not, ◌&&◌, List, length, drop, Some, None, Ok, Err, Option, Result, ◌==◌, nat_le, slice_index}
+use Rattle.std.specs.Prelude.{ℕ, ◌+◌, Bool, false, cond, not, List, length, drop, Some, None, Ok, Err, Option, Result, ◌==◌, nat_le, slice_index}
 use Rattle.refusal.specs.declared.Refusal.{Refusal}
 use Rattle.refusal.specs.declared.Refusal.TheVariants.{Length, Addressee, PhaseZero}
 use Rattle.block.specs.Numbers.{word}
 use Rattle.block.specs.Phases.{phase_number}
 use Rattle.channel.specs.Controls.{handshake, upper_bits}
-use Rattle.service.specs.declared.link.Link.{Link}
 use Rattle.service.specs.States.{State, same}
 use Rattle.service.specs.Steps.{step}
 use Rattle.drive.specs.Machines.{Machine, value_at}

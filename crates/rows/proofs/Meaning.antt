@@ -1,5 +1,5 @@
 -- The blocks that rows, states and bytes show: place by place, in bounds, and after a change. Assumes nothing.
-use Rattle.std.proofs.Common.{◌≡◌, ℕ, zero, suc, ◌+◌, ◌-◌, ◌<◌, ◌≤◌, Bool, true, false, cond, ◌&&◌, eqb, leb, List, [], ◌∷◌, map, length, get_or, take, drop, set, Some, None, Option, sym, refl, ap, ◌∙◌, subst, ⊎_elim, arith, length-drop, length-take, rules}
+use Rattle.std.proofs.Common.{◌≡◌, ℕ, zero, suc, ◌+◌, ◌<◌, ◌≤◌, true, cond, ◌&&◌, eqb, leb, List, [], ◌∷◌, map, length, get_or, take, drop, set, Some, None, Option, sym, refl, ap, ◌∙◌, ⊎_elim, arith, length-drop, length-take}
 use lib.Seq.{paste}
 use Rattle.std.specs.List.{slice_get}
 use Rattle.std.specs.Option.{option_map}
@@ -8,8 +8,8 @@ use Rattle.std.proofs.lemmas.List.Edits.{length-paste}
 use Rattle.std.proofs.lemmas.Option.{slice_get_past}
 use Rattle.std.proofs.lemmas.Bool.{and_parts, and_from, eqb-true, cond_both, cond-true, leb-true, le-leb, false≢true, cases_lt, cases_Bool}
 use Rattle.std.proofs.lemmas.Bool.Decides.{nat_tests}
-use Rattle.block.specs.Attributes.{length_code, known_code, is_list, item_size}
-use Rattle.block.specs.Blocks.{Block, is_kept, length_fits, maximum_fits, form_kept, block_kept}
+use Rattle.block.specs.Attributes.{length_code}
+use Rattle.block.specs.Blocks.{Block, is_kept, length_fits, maximum_fits, block_kept}
 use Rattle.block.specs.Lists.{place_of, all_kept, changed, with_content, with_status, may_replace, may_mark, most_blocks}
 use Rattle.rows.specs.declared.row.Row.{Row}
 use Rattle.rows.specs.declared.row.State.{State}

@@ -1,9 +1,7 @@
 -- A part of a byte area after a write elsewhere, and at the very place. Assumes nothing.
-use Rattle.std.proofs.Common.{◌≡◌, ℕ, ◌+◌, ◌-◌, ◌<◌, ◌≤◌, List, length, get_or, take, drop, sym, refl, ap, ◌∙◌, arith, rules}
+use Rattle.std.proofs.Common.{◌≡◌, ℕ, ◌+◌, ◌≤◌, List, length, take, drop, arith, rules}
 use lib.Seq.{paste}
 use Rattle.std.proofs.lemmas.List.{same_lists, places}
-use Rattle.std.proofs.lemmas.Slice.{overwrites}
-use Rattle.std.proofs.lemmas.List.Edits.{length-paste, drop-paste, take-paste}
 
 -- before the place
 pub part_before : (d s : List ℕ) (at n from k : ℕ) → from + k ≤ at → at + n ≤ length d → n ≡ length s

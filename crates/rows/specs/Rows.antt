@@ -1,5 +1,5 @@
 -- The rows of a table or a catalogue: the parts of each block that never change, and where its data lie. Assumes nothing.
-use Rattle.std.specs.Prelude.{ℕ, zero, suc, ◌+◌, Bool, true, false, cond, ◌&&◌, List, [], ◌∷◌, map, length, Some, None, Option, ◌==◌, nat_le, nat_lt}
+use Rattle.std.specs.Prelude.{ℕ, zero, suc, ◌+◌, Bool, true, cond, ◌&&◌, List, [], ◌∷◌, length, Some, None, Option, ◌==◌, nat_le, nat_lt}
 use Rattle.std.specs.Option.{option_map}
 use Rattle.block.specs.Attributes.{length_code, known_code, is_list, item_size}
 use Rattle.block.specs.Blocks.{form_kept}

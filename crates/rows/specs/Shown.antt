@@ -1,5 +1,5 @@
 -- What rows, their states and a byte area show together: a list of blocks. Assumes nothing.
-use Rattle.std.specs.Prelude.{ℕ, zero, suc, ◌+◌, Bool, true, false, cond, ◌&&◌, List, [], ◌∷◌, map, length, take, drop, ◌==◌, nat_le}
+use Rattle.std.specs.Prelude.{ℕ, zero, suc, ◌+◌, Bool, true, false, cond, ◌&&◌, List, [], ◌∷◌, length, take, drop, ◌==◌, nat_le}
 use Rattle.std.proofs.Math.Seq.{paste}
 use Rattle.block.specs.Attributes.{length_code}
 use Rattle.block.specs.declared.keeper.Keeper.TheVariants.{Nobody}

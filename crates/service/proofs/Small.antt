@@ -1,5 +1,5 @@
 -- No element of a block that keeps the rules has more than 512 words. Assumes nothing.
-use Rattle.std.proofs.Common.{◌≡◌, ℕ, ◌+◌, ◌/◌, ◌<◌, ◌≤◌, Bool, true, false, cond, ◌&&◌, eqb, ltb, leb, List, [], ◌∷◌, length, Some, None, Ok, Err, Option, Result, sym, refl, ap, ◌∙◌, subst, arith}
+use Rattle.std.proofs.Common.{◌≡◌, ℕ, ◌≤◌, Bool, true, eqb, leb, List, [], ◌∷◌, length, Some, None, Ok, Option, refl, arith}
 use Rattle.std.specs.List.{slice_get}
 use Rattle.std.specs.Option.{option_map}
 use Rattle.block.specs.Lists.{all_kept}
@@ -10,7 +10,6 @@ use Rattle.block.specs.declared.limits.Limits.{Limits}
 use Rattle.block.specs.Numbers.{pattern}
 use Rattle.block.specs.Attributes.{length_code, is_list}
 use Rattle.block.specs.Blocks.{Block, block_kept, maximum_fits, length_fits, form_kept}
-use Rattle.block.specs.Limits.{limits_kept}
 use Rattle.channel.specs.declared.code.Digit.{Digit}
 use Rattle.channel.specs.Layouts.{Shape, plain, headed, shape_of, text_shape, lower_shape, upper_shape, content_shape, word_count, word_at, read_fault, fixed_words}
 use Rattle.service.specs.Steps.{word_unless, shape_word, read_word}

@@ -1,11 +1,11 @@
 -- One word of a write, put together from the verdicts on it. Assumes nothing.
-use Rattle.std.proofs.Common.{◌≡◌, ℕ, ◌+◌, ◌<◌, ◌≤◌, Bool, true, false, cond, List, Some, None, Option, sym, refl, ap, ◌∙◌, arith}
+use Rattle.std.proofs.Common.{◌≡◌, ℕ, ◌<◌, ◌≤◌, Bool, true, cond, List, Some, None, Option, sym, ap, ◌∙◌, arith}
 use Rattle.std.specs.Option.{option_map}
 use Rattle.std.proofs.lemmas.Bool.Decides.{nat_tests}
 use Rattle.block.specs.declared.idn.Idn.{Idn}
 use Rattle.block.specs.declared.keeper.Keeper.{Keeper}
 use Rattle.block.specs.Blocks.{Block}
-use Rattle.channel.specs.Writes.{is_locked, final_word, is_too_long, write_rule}
+use Rattle.channel.specs.Writes.{is_locked, write_rule}
 use Rattle.service.specs.declared.link.Head.{Head}
 use Rattle.channel.specs.declared.control.Element.TheVariants.{Content}
 use Rattle.service.specs.States.{State, head_of, next_word, words_so_far, going}

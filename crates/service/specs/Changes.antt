@@ -2,7 +2,7 @@
 use Rattle.std.specs.Prelude.{ℕ, cond, List, length, Some, None, Option}
 use Rattle.std.specs.List.{slice_get}
 use Rattle.block.specs.Blocks.{Block}
-use Rattle.block.specs.Lists.{place_of, changed, with_content, with_status, may_replace, may_mark}
+use Rattle.block.specs.Lists.{changed, with_content, with_status, may_replace, may_mark}
 
 -- other data at a place
 abbrev pub replaced : List Block → ℕ → List ℕ → List Block

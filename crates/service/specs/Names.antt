@@ -1,5 +1,5 @@
 -- What the checks S-0-0127 and S-0-0128 name, from the blocks as they stand. Assumes nothing.
-use Rattle.std.specs.Prelude.{ℕ, ◌%◌, Bool, true, false, cond, not, ◌&&◌, ◌||◌, List, [], ◌∷◌, Some, None, Option, ◌==◌}
+use Rattle.std.specs.Prelude.{ℕ, ◌%◌, Bool, false, cond, not, ◌&&◌, List, [], ◌∷◌, Some, None, Option, ◌==◌}
 use Rattle.std.specs.List.{slice_get}
 use Rattle.block.specs.Numbers.{bit, pattern, words_of}
 use Rattle.block.specs.Blocks.{Block}

@@ -1,5 +1,5 @@
 -- One step of the service channel, case by case. Assumes nothing.
-use Rattle.std.specs.Prelude.{ℕ, ◌+◌, Bool, true, false, cond, not, ◌&&◌, ◌||◌, List, [], ◌∷◌, length, Some, None, Ok, Err, Option, Result, ◌==◌}
+use Rattle.std.specs.Prelude.{ℕ, ◌+◌, Bool, true, false, cond, not, ◌&&◌, ◌||◌, List, [], ◌∷◌, Some, None, Ok, Err, Option, Result, ◌==◌}
 use Rattle.std.specs.List.{slice_get}
 use Rattle.block.specs.declared.idn.Idn.{Idn}
 use Rattle.block.specs.Attributes.{is_command}
@@ -17,9 +17,9 @@ use Rattle.channel.specs.Writes.{is_locked, write_rule}
 use Rattle.channel.specs.Commands.{is_active, runs_in, command_rule}
 use Rattle.service.specs.Words.{word_bytes, pushed, written_length, written_data}
 use Rattle.service.specs.Changes.{replaced, status_set, accepted, accepted_at}
-use Rattle.service.specs.Names.{block_at, block_of, names_for_phase_3, names_for_phase_4}
+use Rattle.service.specs.Names.{block_of, names_for_phase_3, names_for_phase_4}
 use Rattle.service.specs.declared.link.Head.{Head}
-use Rattle.service.specs.States.{State, head_of, goes_on, next_word, words_so_far, ended, going}
+use Rattle.service.specs.States.{State, head_of, next_word, words_so_far, ended, going}
 
 -- a word, unless something is wrong
 abbrev pub word_unless : Option Digit → ℕ → Result ℕ Digit

@@ -1,11 +1,10 @@
 -- What a table over checked rows means when it is made, and after a change. Assumes nothing.
-use Rattle.std.proofs.Common.{◌≡◌, ℕ, ◌≤◌, Bool, true, false, cond, ◌&&◌, eqb, leb, List, [], ◌∷◌, length, drop, sym, refl, ap, ◌∙◌, ⊎_elim, arith}
+use Rattle.std.proofs.Common.{◌≡◌, ℕ, Bool, true, false, List, length, drop, refl, ap, ◌∙◌, ⊎_elim, arith}
 use Rattle.std.specs.List.{slice_get}
 use Rattle.std.proofs.lemmas.Bool.{cases_Bool, le-leb, eq-eqb, and_from, false≢true}
 use Rattle.std.proofs.lemmas.Bool.Decides.{nat_tests}
 use Rattle.block.specs.Lists.{most_blocks, changed, with_content, with_status, may_replace, may_mark}
 use Rattle.rows.specs.declared.plan.Plan.{Plan}
-use Rattle.rows.specs.declared.row.Row.{Row}
 use Rattle.rows.specs.declared.row.State.{State}
 use Rattle.rows.specs.Rows.{size_of, laid_out, start_at}
 use Rattle.rows.specs.Shown.{states_fit, matched_blocks, row_blocks, marked, resized, written}

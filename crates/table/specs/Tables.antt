@@ -1,5 +1,5 @@
 -- What a table and a catalogue show as stores, and the bounds that they keep. Assumes nothing.
-use Rattle.std.specs.Prelude.{◌≡◌, ℕ, suc, ◌≤◌, Bool, true, cond, ◌&&◌, List, [], ◌∷◌, map, length, drop, refl}
+use Rattle.std.specs.Prelude.{◌≡◌, ℕ, suc, ◌≤◌, Bool, true, cond, List, [], ◌∷◌, map, length, drop, refl}
 use Rattle.std.proofs.Common.{ap, arith}
 use Rattle.std.specs.Borrow.{GName}
 use Rattle.std.proofs.lemmas.Bool.{cond_both, and_parts, and_from}

@@ -1,7 +1,4 @@
-use Rattle.std.proofs.Common.{◌≡◌, cond, [], ◌∷◌, sym, ap, ◌∙◌}
-use Rattle.std.specs.List.{slice_get}
-use Rattle.block.specs.Lists.{changed, with_content, with_status}
-use Rattle.service.specs.Changes.{status_set}
+use Rattle.std.proofs.Common.{[], ◌∷◌, sym, ◌∙◌}
 use Rattle.drive.proofs.Resets.{reset_command, reset_other, store_changes}
 use Rattle.drive.proofs.phases.reset_at.Goals as goal
 

@@ -1,4 +1,4 @@
-use Rattle.std.proofs.Common.{◌≡◌, sym, ap, ◌∙◌, arith}
+use Rattle.std.proofs.Common.{ap, ◌∙◌, arith}
 use Rattle.block.specs.Lists.{changed}
 use Rattle.drive.specs.Phases.{reset_block}
 use Rattle.drive.proofs.Resets.{reset_more, reset_all}

@@ -1,9 +1,7 @@
-use Rattle.std.proofs.Common.{◌≡◌, ◌<◌, ◌≤◌, true, false, length, sym, refl, ap, ◌∙◌, arith, rules}
-use Rattle.std.specs.List.{slice_get}
+use Rattle.std.proofs.Common.{◌≡◌, ◌≤◌, true, false, sym, refl, ap, ◌∙◌, arith, rules}
 use Rattle.std.proofs.lemmas.Bool.Decides.{nat_tests}
 use Rattle.block.specs.Blocks.{length_fits}
 use Rattle.block.specs.Lists.{may_mark, may_replace}
-use Rattle.rows.specs.Shown.{matched_blocks}
 use Rattle.rows.proofs.Laid.{row_at, area_small}
 use Rattle.rows.proofs.Meaning.{mark_parts, matched_nth, row_within, fits_area, start_at_lem}
 use Rattle.rows.proofs.change.room_for.Goals as goal

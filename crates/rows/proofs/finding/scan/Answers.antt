@@ -1,4 +1,4 @@
-use Rattle.std.proofs.Common.{◌≡◌, ◌<◌, map, length, sym, ◌∙◌, arith, below_more}
+use Rattle.std.proofs.Common.{◌≡◌, map, length, sym, ◌∙◌, arith, below_more}
 use Rattle.std.proofs.lemmas.List.{length-map}
 use Rattle.rows.specs.Rows.{row_idn}
 use Rattle.rows.proofs.Ascending.{idn_at, place_found, place_none}

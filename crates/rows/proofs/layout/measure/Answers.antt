@@ -1,7 +1,7 @@
-use Rattle.std.proofs.Common.{◌≡◌, ◌+◌, ◌<◌, ◌≤◌, true, false, ◌&&◌, eqb, length, drop, sym, ap, ◌∙◌, arith, rules}
+use Rattle.std.proofs.Common.{◌≡◌, true, drop, sym, ◌∙◌, arith, rules}
 use Rattle.std.proofs.lemmas.List.{at_drop_all}
 use Rattle.std.proofs.lemmas.Bool.Decides.{nat_tests}
-use Rattle.rows.specs.Rows.{laid_from, size_of, row_kept, area_of}
+use Rattle.rows.specs.Rows.{laid_from, size_of, row_kept}
 use Rattle.rows.proofs.Laid.{row_at, laid_more, size_more, area_small}
 use Rattle.rows.proofs.layout.measure.Goals as goal
 use Rattle.rows.proofs.layout.measure.Goals.{then-row-from-via-then-row-from, then-row-from-via-else-row-from+then-not-row_kept}

@@ -1,4 +1,3 @@
-use Rattle.std.proofs.Common.{◌≡◌}
 use Rattle.block.specs.Blocks.{seen}
 use Rattle.service.proofs.Naming.{entries_small}
 use Rattle.service.proofs.checks.name_for_phase_4.Goals as goal

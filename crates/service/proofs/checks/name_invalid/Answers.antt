@@ -1,7 +1,7 @@
 use Rattle.std.proofs.Common.{◌≡◌, ◌+◌, ◌*◌, ◌<◌, ◌≤◌, ◌++◌, length, get_or, sym, ap, ◌∙◌, append-nil, arith, rules}
 use Rattle.block.specs.Numbers.{word}
 use Rattle.block.proofs.Words.{words_none}
-use Rattle.service.specs.Names.{is_to_name, invalid_among}
+use Rattle.service.specs.Names.{invalid_among}
 use Rattle.service.specs.States.{kept_bytes}
 use Rattle.service.specs.Words.{kept_most, word_bytes}
 use Rattle.service.proofs.Naming.{entry_named, entry_length}

@@ -1,4 +1,4 @@
-use Rattle.std.proofs.Common.{◌≡◌, Bool, cond, not, is_some, ap, ◌∙◌, arith}
+use Rattle.std.proofs.Common.{◌≡◌, not, is_some, arith}
 use Rattle.std.proofs.lemmas.Bool.Decides.{nat_tests}
 use Rattle.service.specs.States.{kept_bytes}
 use Rattle.service.proofs.Naming.{eight_pushed, push_when}

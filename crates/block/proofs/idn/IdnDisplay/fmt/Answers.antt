@@ -1,4 +1,4 @@
-use Rattle.std.proofs.Common.{◌≡◌, ◌<◌, ◌∙◌, arith, rules}
+use Rattle.std.proofs.Common.{◌≡◌, ◌<◌, rules}
 use Rattle.std.proofs.Output.{has_written_of_eq}
 use Rattle.block.proofs.Texts.{idn_written}
 use Rattle.block.specs.Idns.{letter_of, is_product}

@@ -1,4 +1,3 @@
-use Rattle.std.proofs.Common.{◌≡◌}
 use Rattle.drive.specs.Machines.{view}
 use Rattle.drive.proofs.Reporting.{report_refusal_lem}
 use Rattle.drive.proofs.drive.Drive.report_verdict.Goals as goal

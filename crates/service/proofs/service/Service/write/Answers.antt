@@ -1,6 +1,6 @@
 use Rattle.std.specs.List.{slice_get}
 use Rattle.block.specs.Phases.{phase_number}
-use Rattle.std.proofs.Common.{◌≡◌, ◌∙◌}
+use Rattle.std.proofs.Common.{◌∙◌}
 use Rattle.service.specs.States.{viewed}
 use Rattle.service.specs.Steps.{write_step}
 use Rattle.service.proofs.Writing.{with_head}

@@ -1,4 +1,4 @@
-use Rattle.std.proofs.Common.{◌≡◌, ◌≤◌, ap, ◌∙◌, rules}
+use Rattle.std.proofs.Common.{◌≤◌, ap, ◌∙◌, rules}
 use Rattle.block.specs.Phases.{phase_number}
 use Rattle.channel.specs.Writes.{write_rule}
 use Rattle.service.specs.States.{viewed, kept_bytes}

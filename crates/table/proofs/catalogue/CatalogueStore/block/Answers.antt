@@ -1,4 +1,4 @@
-use Rattle.std.proofs.Common.{◌≡◌, sym, ap, ◌∙◌}
+use Rattle.std.proofs.Common.{sym, ◌∙◌}
 use Rattle.table.proofs.Disowned.{nth_disowned}
 use Rattle.table.proofs.catalogue.CatalogueStore.block.Goals as goal
 

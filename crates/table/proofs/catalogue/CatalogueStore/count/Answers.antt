@@ -1,5 +1,4 @@
-use Rattle.std.proofs.Common.{◌≡◌, length, sym, ap, ◌∙◌}
-use Rattle.table.specs.Tables.{catalogue_shown}
+use Rattle.std.proofs.Common.{sym, ◌∙◌}
 use Rattle.table.proofs.Disowned.{count_nobodys}
 use Rattle.table.proofs.catalogue.CatalogueStore.count.Goals as goal
 

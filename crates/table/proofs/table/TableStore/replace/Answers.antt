@@ -1,7 +1,5 @@
-use Rattle.std.proofs.Common.{◌≡◌, true, length, sym, refl, ap, ◌∙◌}
-use Rattle.std.specs.List.{slice_get}
-use Rattle.block.specs.Lists.{may_replace}
-use Rattle.table.specs.Tables.{table_shown, TableRest}
+use Rattle.std.proofs.Common.{sym, refl, ap, ◌∙◌}
+use Rattle.table.specs.Tables.{TableRest}
 use Rattle.table.proofs.Making.{shown_written, shown_spare, lent_is}
 use Rattle.rows.specs.Shown.{resized, written}
 use Rattle.table.proofs.table.TableStore.replace.Goals as goal
