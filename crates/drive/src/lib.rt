@@ -4,7 +4,7 @@
 mod answer;
 pub mod drive;
 mod entry;
-mod making;
+mod make;
 mod phases;
 mod report;
 mod telegrams;
