@@ -1,15 +1,16 @@
-use Rattle.std.proofs.Common.{arith}
+use Rattle.std.proofs.Common.{◌+◌, Some, length, sym, ap, ◌∙◌, arith}
+use Rattle.std.specs.Option.{option_map}
 use Rattle.block.proofs.Lists.{place-append}
-use Rattle.joined.proofs.Places.{place_within}
+use Rattle.joined.proofs.Places.{place_within, place_behind}
 use Rattle.joined.proofs.JoinedStore.find.Goals as goal
 
 pub returns-in_err-find-in-None : goal.returns-in_err-find-in-None
 returns-in_err-find-in-None g c =
     let first = g.F.Store.blocks c.args.self.now.first in
     let second = g.S.Store.blocks c.args.self.now.second in
-    let none = c.in-None.ensures in
-    let nowhere = c.in_err-find-in-None.was in
-    grind (arith, place-append first second c.args.idn.0)
+    let behind = place_behind first second c.args.idn.0 (sym c.is_whole.ensures ∙ c.if-is_whole.true) c.in-None.ensures in
+    let nowhere = ap (option_map (λ p. length first + p)) (sym c.find-in-None.ensures ∙ c.in_err-find-in-None.was) in
+    c.from_residual.ensures ∙ sym (behind ∙ nowhere)
 
 pub overflow_add-result : goal.overflow_add-result
 overflow_add-result g c =
@@ -30,7 +31,6 @@ pub returns-in_ok-find-in-None : goal.returns-in_ok-find-in-None
 returns-in_ok-find-in-None g c =
     let first = g.F.Store.blocks c.args.self.now.first in
     let second = g.S.Store.blocks c.args.self.now.second in
-    let none = c.in-None.ensures in
-    let whole = c.if-is_whole.ensures in
-    let found = c.in_ok-find-in-None.was in
-    grind (arith, place-append first second c.args.idn.0)
+    let behind = place_behind first second c.args.idn.0 (sym c.is_whole.ensures ∙ c.if-is_whole.true) c.in-None.ensures in
+    let there = ap (option_map (λ p. length first + p)) (sym c.find-in-None.ensures ∙ c.in_ok-find-in-None.was) in
+    ap (λ n. Some (n + c.in_ok-find-in-None.field-0)) c.count.ensures ∙ sym (behind ∙ there)
