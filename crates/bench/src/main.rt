@@ -4,6 +4,10 @@
 mod blocks;
 mod line;
 
+ghost use Rattle.std.specs.Prelude.{◌≡◌, None};
+ghost use Rattle.bench.specs.Exchanges.{shown_after};
+ghost use Rattle.drive.specs.Machines.{view};
+
 use drive::drive::Drive;
 use line::{Line, Shown};
 use refusal::Refusal;
@@ -59,7 +63,9 @@ fn send<S: Store>(
 }
 
 // What the next AT shows.
-fn next_at<S: Store>(drive: &Drive<S>) -> Shown {
+fn next_at<S: Store>(drive: &Drive<S>) -> Shown
+    ensures { result ≡ shown_after None (view S.Store.blocks drive.now) }
+{
     let mut at = [0u8; 5];
     match drive.at(0, &mut at) {
         Ok(()) => {
