@@ -4,6 +4,7 @@ use Rattle.block.specs.declared.keeper.Keeper.{Keeper}
 use Rattle.block.specs.declared.keeper.Keeper.TheVariants.{Master, Drive, Channel, Nobody}
 use Rattle.block.specs.declared.limits.Limits.{Limits}
 use Rattle.block.specs.declared.view.View.{View}
+use Rattle.block.specs.Numbers.{bit}
 use Rattle.block.specs.Attributes.{length_code, known_code, is_list, item_size}
 use Rattle.block.specs.Limits.{limits_kept}
 
@@ -22,6 +23,10 @@ pub record Block : Type 0 where
 -- the block that a view shows
 abbrev pub seen : View → Block
 seen v = record { idn = v.idn.0; keeper = v.keeper; status = v.status; name = v.name.now; attribute = v.attribute.0; unit = v.unit.now; limits = v.limits; most = v.most; content = v.content.now }
+
+-- status bit 8: the data are invalid
+abbrev pub is_invalid : Block → Bool
+is_invalid b = bit 0x100 b.status
 
 -- somebody may change the block
 abbrev pub is_kept : Keeper → Bool

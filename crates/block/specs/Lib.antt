@@ -1,5 +1,6 @@
 pub mod Numbers
 pub mod Idns
+pub mod Named
 pub mod Phases
 pub mod Attributes
 pub mod Limits

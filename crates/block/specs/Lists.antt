@@ -1,5 +1,6 @@
 -- A store's list of blocks: places, changes at one place, and the bounds. Assumes nothing.
 use Rattle.std.specs.Prelude.{ℕ, zero, suc, Bool, true, false, cond, ◌&&◌, List, [], ◌∷◌, Some, None, Option, ◌==◌}
+use Rattle.std.specs.List.{slice_get}
 use Rattle.std.specs.Option.{option_map}
 use Rattle.block.specs.Blocks.{Block, is_kept, length_fits, block_kept}
 
@@ -11,6 +12,15 @@ most_blocks = 510
 abbrev pub place_of : List Block → ℕ → Option ℕ
 place_of [] idn = None
 place_of (b ∷ bs) idn = cond (b.idn == idn) (Some 0) (option_map suc (place_of bs idn))
+
+-- the block at a place that may be there
+abbrev pub block_at : List Block → Option ℕ → Option Block
+block_at bs None = None
+block_at bs (Some place) = slice_get bs place
+
+-- the first block of an IDN
+abbrev pub block_of : List Block → ℕ → Option Block
+block_of bs idn = block_at bs (place_of bs idn)
 
 -- every block keeps the block rules
 abbrev pub all_kept : List Block → Bool

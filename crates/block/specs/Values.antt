@@ -1,5 +1,5 @@
 -- The one check of a value, which writes, reports and making share. Assumes nothing.
-use Rattle.std.specs.Prelude.{ℕ, Bool, true, cond, not, ◌&&◌, ◌||◌, List, [], ◌∷◌, is_some, Some, None, Option, ◌==◌}
+use Rattle.std.specs.Prelude.{ℕ, Bool, true, cond, not, ◌&&◌, ◌||◌, List, [], ◌∷◌, is_some, Some, None, Option, Ok, Err, Result, ◌==◌}
 use Rattle.block.specs.declared.limits.Limits.{Limits}
 use Rattle.block.specs.declared.value.ValueFault.{ValueFault}
 use Rattle.block.specs.declared.value.ValueFault.TheVariants.{TooLow, TooHigh, UnknownIdn}
@@ -20,6 +20,11 @@ abbrev pub range_fault : ℕ → Option Limits → ℕ → Option ValueFault
 range_fault a None x = None
 range_fault a (Some l) x =
     cond (is_below a x l.lower) (Some TooLow) (cond (is_below a l.upper x) (Some TooHigh) None)
+
+-- what may be at fault, as a result: the fault, or nothing
+abbrev pub ok_unless : {E : Type 0} → Option E → Result (Unit {0}) E
+ok_unless None = Ok tt
+ok_unless (Some e) = Err e
 
 -- an entry is 0 or the IDN of a block of the store
 abbrev pub idn_known : List Block → ℕ → Bool

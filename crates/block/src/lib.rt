@@ -3,6 +3,7 @@
 
 pub mod attribute;
 pub mod idn;
+pub mod idns;
 pub mod keeper;
 pub mod limits;
 pub mod phase;

@@ -1,7 +1,7 @@
 // The check of a value against its limits; the check of IDNs needs a store beside it.
-ghost use Rattle.std.specs.Prelude.{◌≡◌, slice_index};
-ghost use Rattle.block.specs.Numbers.{pattern};
-ghost use Rattle.block.specs.Values.{cause_of, range_fault};
+ghost use Rattle.std.specs.Prelude.{◌≡◌, ◌+◌, slice_index};
+ghost use Rattle.block.specs.Numbers.{pattern, word};
+ghost use Rattle.block.specs.Values.{cause_of, range_fault, ok_unless};
 
 use crate::attribute::Attribute;
 use crate::limits::{Limits, is_below};
@@ -42,16 +42,40 @@ pub fn pattern_of(bytes: &[u8]) -> u32
     low + 0x1_0000 * high
 }
 
-// The first fault of a pattern against the limits: below, then above.
+// The word of two bytes from a place on, low byte first.
+pub fn word_at(bytes: &[u8], place: usize) -> u16
+    ensures { result ≡ word (slice_index bytes.now place) (slice_index bytes.now (place + 1)) }
+{
+    match bytes.get(place..) {
+        Some([low, high, ..]) => u16::from_le_bytes([*low, *high]),
+        Some([low]) => u16::from(*low),
+        _ => 0,
+    }
+}
+
+// The first fault of a pattern against the limits, if any: below, then above.
+pub fn check_range(
+    attribute: Attribute,
+    limits: Option<Limits>,
+    pattern: u32,
+) -> Result<(), ValueFault>
+    ensures { result ≡ ok_unless (range_fault attribute.0 limits pattern) }
+{
+    let Some(Limits { lower, upper }) = limits else {
+        return Ok(());
+    };
+    if is_below(attribute, pattern, lower) {
+        return Err(ValueFault::TooLow);
+    }
+    if is_below(attribute, upper, pattern) {
+        return Err(ValueFault::TooHigh);
+    }
+    Ok(())
+}
+
+// The same fault, as an option.
 pub fn range_fault(attribute: Attribute, limits: Option<Limits>, pattern: u32) -> Option<ValueFault>
     ensures { result ≡ range_fault attribute.0 limits pattern }
 {
-    let Limits { lower, upper } = limits?;
-    if is_below(attribute, pattern, lower) {
-        return Some(ValueFault::TooLow);
-    }
-    if is_below(attribute, upper, pattern) {
-        return Some(ValueFault::TooHigh);
-    }
-    None
+    check_range(attribute, limits, pattern).err()
 }

@@ -1,6 +1,6 @@
 // One block as a store shows it: every part, read in place.
 ghost use Rattle.std.specs.Prelude.{◌≡◌, length};
-ghost use Rattle.block.specs.Blocks.{length_fits, maximum_fits, form_kept};
+ghost use Rattle.block.specs.Blocks.{seen, is_invalid, length_fits, maximum_fits, form_kept};
 
 use crate::attribute::Attribute;
 use crate::idn::Idn;
@@ -14,7 +14,7 @@ pub const UNIT_MOST: usize = 12;
 
 pub const LIST_MOST: u16 = 1020;
 
-#[derive(Clone, Copy)]
+#[derive(Clone, Copy, PartialEq, Eq, Debug)]
 pub struct View<'a> {
     pub idn: Idn,
     pub keeper: Keeper,
@@ -25,6 +25,15 @@ pub struct View<'a> {
     pub limits: Option<Limits>,
     pub most: u16,
     pub content: &'a [u8],
+}
+
+impl View<'_> {
+    // Whether the status says that the data are invalid (bit 8).
+    pub fn is_invalid(&self) -> bool
+        ensures { result ≡ is_invalid (seen self.now) }
+    {
+        self.status / 0x100 % 2 == 1
+    }
 }
 
 // Whether n bytes are a possible length of data of this attribute and maximum.

@@ -1,6 +1,8 @@
 -- The refusals of calls and the causes of a refused report, with their numbers. Assumes nothing.
 use Rattle.std.specs.Prelude.{ℕ, Some, None, Option}
 use Rattle.block.specs.declared.idn.Idn.{Idn}
+use Rattle.block.specs.declared.value.ValueFault as fault
+use Rattle.block.specs.declared.value.ValueFault.{ValueFault}
 use Rattle.refusal.specs.declared.Cause.{Cause}
 use Rattle.refusal.specs.declared.Cause.TheVariants.{TooShort, TooLong, TooLow, TooHigh, Broken}
 use Rattle.refusal.specs.declared.Refusal.{Refusal}
@@ -13,6 +15,12 @@ cause_number TooLong = 3
 cause_number TooLow = 6
 cause_number TooHigh = 7
 cause_number Broken = 8
+
+-- the cause that a fault of a value is
+abbrev pub fault_cause : ValueFault → Cause
+fault_cause fault.ValueFault.TooLow = TooLow
+fault_cause fault.ValueFault.TooHigh = TooHigh
+fault_cause fault.ValueFault.UnknownIdn = Broken
 
 -- the number of a refusal
 abbrev pub refusal_number : Refusal → ℕ

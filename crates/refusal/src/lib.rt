@@ -2,31 +2,39 @@
 #![tactic(auto)]
 
 ghost use Rattle.std.specs.Prelude.{◌≡◌};
-ghost use Rattle.refusal.specs.Refusals.{cause_number, refusal_number, refused_idn};
+ghost use Rattle.refusal.specs.Refusals.{cause_number, fault_cause, refusal_number, refused_idn};
+ghost use Rattle.refusal.specs.declared.Refusal.TheVariants.{Value};
 
 use block::idn::Idn;
+use block::value::ValueFault;
 
 // Why the data of a report do not pass.
 #[derive(Clone, Copy, PartialEq, Eq, Debug)]
 pub enum Cause {
-    TooShort,
-    TooLong,
-    TooLow,
-    TooHigh,
+    TooShort = 2,
+    TooLong = 3,
+    TooLow = 6,
+    TooHigh = 7,
     // a broken item of a list, or an IDN that the store lacks
-    Broken,
+    Broken = 8,
 }
 
 impl Cause {
     pub fn number(self) -> u8
         ensures { result ≡ cause_number self }
     {
-        match self {
-            Cause::TooShort => 2,
-            Cause::TooLong => 3,
-            Cause::TooLow => 6,
-            Cause::TooHigh => 7,
-            Cause::Broken => 8,
+        self as u8
+    }
+}
+
+impl From<ValueFault> for Cause {
+    ghost from_gives = { λ fault cause. cause ≡ fault_cause fault };
+
+    fn from(fault: ValueFault) -> Cause {
+        match fault {
+            ValueFault::TooLow => Cause::TooLow,
+            ValueFault::TooHigh => Cause::TooHigh,
+            ValueFault::UnknownIdn => Cause::Broken,
         }
     }
 }
@@ -99,5 +107,13 @@ impl Refusal {
             | Refusal::Demanded(idn) => Some(idn),
             _ => None,
         }
+    }
+}
+
+impl From<Cause> for Refusal {
+    ghost from_gives = { λ cause refusal. refusal ≡ Value cause };
+
+    fn from(cause: Cause) -> Refusal {
+        Refusal::Value(cause)
     }
 }
