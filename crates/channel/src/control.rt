@@ -5,30 +5,21 @@ ghost use Rattle.channel.specs.Controls.{handshake, is_write, is_last, element_o
 // What a step is about: closing the channel, the IDN or status, or a part of the open block.
 #[derive(Clone, Copy, PartialEq, Eq, Debug)]
 pub enum Element {
-    Closing,
-    Number,
-    Name,
-    Attribute,
-    Unit,
-    Lower,
-    Upper,
-    Content,
+    Closing = 0,
+    Number = 1,
+    Name = 2,
+    Attribute = 3,
+    Unit = 4,
+    Lower = 5,
+    Upper = 6,
+    Content = 7,
 }
 
 impl Element {
     pub fn number(self) -> u16
         ensures { result ≡ element_number self }
     {
-        match self {
-            Element::Closing => 0,
-            Element::Number => 1,
-            Element::Name => 2,
-            Element::Attribute => 3,
-            Element::Unit => 4,
-            Element::Lower => 5,
-            Element::Upper => 6,
-            Element::Content => 7,
-        }
+        self as u16
     }
 }
 
