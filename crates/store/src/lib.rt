@@ -1,5 +1,6 @@
-// What every store of data blocks must show, and the one check of a value against a store.
+// What every store of data blocks must show, and what any store is asked: a search, and the one check of a value.
 #![tactic(auto)]
 
+pub mod scan;
 pub mod store;
 pub mod value;

@@ -1,19 +1,19 @@
 // The one check of a value, over any store: writes, reports and making all come here.
 ghost use Rattle.std.specs.Prelude.{◌≡◌};
 ghost use Rattle.block.specs.Numbers.{words_of};
-ghost use Rattle.block.specs.Values.{idn_known, idns_known, value_fault};
+ghost use Rattle.block.specs.Values.{idn_known, idns_known, value_fault, ok_unless};
 
 use crate::store::Store;
 use block::attribute::{Attribute, DataType};
 use block::idn::Idn;
 use block::limits::Limits;
-use block::value::{ValueFault, pattern_of, range_fault};
+use block::value::{ValueFault, check_range, pattern_of};
 
 // Whether an entry is 0 or the IDN of a block of the store.
 pub fn idn_known<S: Store>(store: &S, idn: Idn) -> bool
     ensures { result ≡ idn_known (S.Store.blocks store.now) idn.0 }
 {
-    idn.0 == 0 || store.find(idn).is_some()
+    idn == Idn(0) || store.find(idn).is_some()
 }
 
 // Whether every IDN that the bytes name is 0 or that of a block of the store.
@@ -31,7 +31,23 @@ pub fn idns_known<S: Store>(store: &S, bytes: &[u8]) -> bool
     true
 }
 
-// The first fault of data for a block of this attribute and these limits: below, above, unknown IDN.
+// The check of data for a block of this attribute and these limits; the error is the first fault: below, above, unknown IDN.
+pub fn check_value<S: Store>(
+    store: &S,
+    attribute: Attribute,
+    limits: Option<Limits>,
+    bytes: &[u8],
+) -> Result<(), ValueFault>
+    ensures { result ≡ ok_unless (value_fault (S.Store.blocks store.now) attribute.0 limits bytes.now) }
+{
+    check_range(attribute, limits, pattern_of(bytes))?;
+    match attribute.data_type() {
+        Some(DataType::IdnType) if !idns_known(store, bytes) => Err(ValueFault::UnknownIdn),
+        _ => Ok(()),
+    }
+}
+
+// The same fault, as an option.
 pub fn value_fault<S: Store>(
     store: &S,
     attribute: Attribute,
@@ -40,12 +56,5 @@ pub fn value_fault<S: Store>(
 ) -> Option<ValueFault>
     ensures { result ≡ value_fault (S.Store.blocks store.now) attribute.0 limits bytes.now }
 {
-    let range = range_fault(attribute, limits, pattern_of(bytes));
-    if range.is_some() {
-        return range;
-    }
-    match attribute.data_type() {
-        Some(DataType::IdnType) if !idns_known(store, bytes) => Some(ValueFault::UnknownIdn),
-        _ => None,
-    }
+    check_value(store, attribute, limits, bytes).err()
 }
