@@ -3,6 +3,7 @@ ghost use Rattle.std.specs.Prelude.{◌≡◌, ◌+◌, ◌-◌, ◌*◌, Some, 
 ghost use Rattle.std.specs.Option.{option_map};
 ghost use Rattle.block.specs.Blocks.{seen};
 ghost use Rattle.block.specs.Numbers.{word};
+ghost use Rattle.block.specs.Values.{ok_unless};
 ghost use Rattle.channel.specs.Controls.{element_number};
 ghost use Rattle.channel.specs.Layouts.{plain, text_shape, content_shape, shape_of, word_count, word_at, read_fault, fixed_words};
 ghost use Rattle.channel.specs.Shapes.{shape};
@@ -12,6 +13,7 @@ use crate::control::Element;
 use block::attribute::{Attribute, LengthCode};
 use block::value::{byte_at, pattern_of};
 use block::view::View;
+use std::cmp::Ordering;
 
 // Plain words of one bit pattern, or byte count, maximum and bytes.
 #[derive(Clone, Copy)]
@@ -119,15 +121,20 @@ fn word_in(bytes: &[u8], k: usize) -> u16
     u16::from(byte_at(bytes, 2 * place)) + 256 * u16::from(byte_at(bytes, 2 * place + 1))
 }
 
-// What is wrong with reading word k of so many words: past the end, or "last" too early.
+// Reading word k of so many words: it fails past the end, and where "last" comes too early.
+pub fn check_read(words: usize, k: usize, last: bool) -> Result<(), Digit>
+    ensures { result ≡ ok_unless (read_fault words k last) }
+{
+    match k.cmp(&words) {
+        Ordering::Greater => Err(Digit::Late),
+        Ordering::Less if last => Err(Digit::Early),
+        _ => Ok(()),
+    }
+}
+
+// The same fault, as an option.
 pub fn read_fault(words: usize, k: usize, last: bool) -> Option<Digit>
     ensures { result ≡ read_fault words k last }
 {
-    if k > words {
-        return Some(Digit::Late);
-    }
-    if last && k < words {
-        return Some(Digit::Early);
-    }
-    None
+    check_read(words, k, last).err()
 }

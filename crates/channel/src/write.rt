@@ -1,6 +1,7 @@
 // The tests of a write to the operation data.
 ghost use Rattle.std.specs.Prelude.{◌≡◌};
 ghost use Rattle.block.specs.Phases.{phase_number};
+ghost use Rattle.block.specs.Values.{ok_unless};
 ghost use Rattle.channel.specs.Writes.{is_timing, is_locked, final_word, is_too_long, is_broken, write_rule};
 
 use crate::code::Digit;
@@ -48,6 +49,36 @@ fn is_broken(attribute: Attribute, n: u16) -> bool
     ensures { result ≡ is_broken attribute.0 n }
 {
     attribute.is_list() && usize::from(n) % attribute.item() != 0
+}
+
+// The tests of word k of a write, in their order, where n is the list's length.
+pub fn check_write(
+    keeper: Keeper,
+    locked: bool,
+    attribute: Attribute,
+    most: u16,
+    n: u16,
+    k: usize,
+    last: bool,
+) -> Result<(), Digit>
+    ensures { result ≡ ok_unless (write_rule keeper locked attribute.0 most n k last) }
+{
+    if keeper != Keeper::Master {
+        return Err(Digit::ReadOnly);
+    }
+    if locked {
+        return Err(Digit::Locked);
+    }
+    if is_too_long(attribute, most, n, k) {
+        return Err(Digit::Late);
+    }
+    if is_broken(attribute, n) {
+        return Err(Digit::Wrong);
+    }
+    if last && k < final_word(attribute, n) {
+        return Err(Digit::Early);
+    }
+    Ok(())
 }
 
 // The first fault of word k of a write, where n is the list's length.
