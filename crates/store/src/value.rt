@@ -7,7 +7,7 @@ use crate::store::Store;
 use block::attribute::{Attribute, DataType};
 use block::idn::Idn;
 use block::limits::Limits;
-use block::value::{ValueFault, check_range, pattern_of};
+use block::value::{ValueFault, check_range, pattern_of, word_at};
 
 // Whether an entry is 0 or the IDN of a block of the store.
 pub fn idn_known<S: Store>(store: &S, idn: Idn) -> bool
@@ -20,15 +20,9 @@ pub fn idn_known<S: Store>(store: &S, idn: Idn) -> bool
 pub fn idns_known<S: Store>(store: &S, bytes: &[u8]) -> bool
     ensures { result ≡ idns_known (S.Store.blocks store.now) (words_of bytes.now) }
 {
-    let mut i = 0;
-    while bytes.len() - i >= 2 {
-        let idn = Idn(u16::from(bytes[i]) + 256 * u16::from(bytes[i + 1]));
-        if !idn_known(store, idn) {
-            return false;
-        }
-        i += 2;
-    }
-    true
+    bytes
+        .chunks_exact(2)
+        .all(|pair| idn_known(store, Idn(word_at(pair, 0))))
 }
 
 // The check of data for a block of this attribute and these limits; the error is the first fault: below, above, unknown IDN.

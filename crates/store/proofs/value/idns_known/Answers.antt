@@ -1,24 +1,18 @@
-use Rattle.std.proofs.Common.{◌≡◌, ◌+◌, ◌<◌, true, false, ◌&&◌, length, get_or, drop, sym, ap, ◌∙◌, arith, rules}
-use Rattle.block.specs.Numbers.{word, words_of}
+use Rattle.std.proofs.Common.{◌≡◌, ℕ, List, [], ◌∷◌, ◌&&◌, refl, ap, ◌∙◌, rules, tests}
+use Rattle.std.specs.List.{list_all}
+use Rattle.std.proofs.lemmas.Iterator.Search.{all_from_yields_List}
+use Rattle.block.specs.Numbers.{words_of}
+use Rattle.block.specs.Blocks.{Block}
 use Rattle.block.specs.Values.{idn_known, idns_known}
-use Rattle.block.proofs.Words.{words_more, words_none}
+use Rattle.store.proofs.Words.{YieldsList-from_pairs}
 use Rattle.store.proofs.value.idns_known.Goals as goal
 
-pub returns-then-not-idn_known : goal.returns-then-not-idn_known
-returns-then-not-idn_known g c =
-    let within : c.loop-i.i + 1 < length c.args.bytes.now = omega arith in
-    let blocks = g.S.Store.blocks c.args.store.now in
-    let more = ap (idns_known blocks) (words_more c.args.bytes.now c.loop-i.i within) in
-    let here : idn_known blocks (word (get_or c.args.bytes.now c.loop-i.i 0) (get_or c.args.bytes.now (c.loop-i.i + 1) 0)) ≡ false = search rules in
-    sym (sym c.loop-i.invariant.1 ∙ more ∙ ap (λ t. t && idns_known blocks (words_of (drop (c.loop-i.i + 2) c.args.bytes.now))) here)
-
-pub loop-i-preserved : goal.loop-i-preserved
-loop-i-preserved g c =
-    let within : c.loop-i.i + 1 < length c.args.bytes.now = omega arith in
-    let blocks = g.S.Store.blocks c.args.store.now in
-    let more = ap (idns_known blocks) (words_more c.args.bytes.now c.loop-i.i within) in
-    let here : idn_known blocks (word (get_or c.args.bytes.now c.loop-i.i 0) (get_or c.args.bytes.now (c.loop-i.i + 1) 0)) ≡ true = search rules in
-    (omega arith, sym (more ∙ ap (λ t. t && idns_known blocks (words_of (drop (c.loop-i.i + 2) c.args.bytes.now))) here) ∙ c.loop-i.invariant.1)
+all_known : (blocks : List Block) (es : List ℕ) → list_all (idn_known blocks) es ≡ idns_known blocks es
+all_known blocks [] = refl
+all_known blocks (e ∷ es) = ap (λ t. idn_known blocks e && t) (all_known blocks es)
 
 pub returns : goal.returns
-returns g c = ap (idns_known (g.S.Store.blocks c.args.store.now)) (sym (words_none c.args.bytes.now c.loop-i.i (omega arith))) ∙ c.loop-i.invariant.1
+returns g c =
+    let blocks = g.S.Store.blocks c.args.store.now in
+    all_from_yields_List (idn_known blocks) _ _ c.all.result c.all.ensures.ran (YieldsList-from_pairs c.args.bytes.now c.chunks_exact.ensures.rest c.chunks_exact.ensures.size) (λ x b q k. search (rules, tests))
+    ∙ all_known blocks (words_of c.args.bytes.now)
