@@ -2,6 +2,32 @@
 use Rattle.std.specs.Prelude.{ℕ, Bool, true, cond, not, ◌||◌, Ok, Err, Result, ◌==◌}
 use Rattle.channel.specs.declared.code.Digit.{Digit}
 use Rattle.channel.specs.declared.code.Digit.TheVariants.{Locked, Wrong}
+use Rattle.channel.specs.declared.command.CommandStatus.{CommandStatus}
+use Rattle.channel.specs.declared.command.CommandStatus.TheVariants.{Idle, Done, Interrupted, UnderWay, Failed}
+use Rattle.channel.specs.declared.command.CommandWord.{CommandWord}
+use Rattle.channel.specs.declared.command.CommandWord.TheVariants.{Cancel, Interrupt, Start}
+
+-- the numbers of the statuses
+abbrev pub status_number : CommandStatus → ℕ
+status_number Idle = 0
+status_number Done = 3
+status_number Interrupted = 5
+status_number UnderWay = 7
+status_number Failed = 15
+
+-- the statuses there are
+abbrev pub known_status : ℕ → Bool
+known_status n = n == 0 || (n == 3 || (n == 5 || (n == 7 || n == 15)))
+
+-- the numbers of the words
+abbrev pub word_number : CommandWord → ℕ
+word_number Cancel = 0
+word_number Interrupt = 1
+word_number Start = 3
+
+-- the words there are
+abbrev pub known_word : ℕ → Bool
+known_word n = n == 0 || (n == 1 || n == 3)
 
 -- the command is interrupted or under way
 abbrev pub is_active : ℕ → Bool

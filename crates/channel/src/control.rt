@@ -49,6 +49,7 @@ impl Control {
     pub fn element(self) -> Element
         ensures { result ≡ element_named (element_of self.0) }
     {
+        // stays: a match, since the three bits always name an element, and TryFrom would add an error that cannot come.
         match self.0 / 8 % 8 {
             0 => Element::Closing,
             1 => Element::Number,

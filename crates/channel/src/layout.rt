@@ -11,12 +11,12 @@ ghost use Rattle.channel.specs.Shapes.{shape};
 use crate::code::Digit;
 use crate::control::Element;
 use block::attribute::{Attribute, LengthCode};
-use block::value::{byte_at, pattern_of};
-use block::view::View;
+use block::value::{pattern_of, word_at};
+use block::view::{NAME_MOST, UNIT_MOST, View};
 use std::cmp::Ordering;
 
 // Plain words of one bit pattern, or byte count, maximum and bytes.
-#[derive(Clone, Copy)]
+#[derive(Clone, Copy, PartialEq, Eq, Debug)]
 pub enum Layout<'v> {
     Plain { words: u16, pattern: u32 },
     Headed { most: u16, bytes: &'v [u8] },
@@ -32,35 +32,28 @@ pub fn fixed_words(attribute: Attribute) -> u16
     }
 }
 
+// A text that is not empty.
 fn text_layout<'v>(most: u16, bytes: &'v [u8]) -> Option<Layout<'v>>
     ensures { option_map shape result ≡ text_shape most bytes.now }
 {
-    match bytes {
-        [] => None,
-        _ => Some(Layout::Headed { most, bytes }),
-    }
+    (!bytes.is_empty()).then_some(Layout::Headed { most, bytes })
 }
 
-fn limit_layout<'v>(attribute: Attribute, limit: u32) -> Option<Layout<'v>>
-    ensures { option_map shape result ≡ Some (plain (fixed_words attribute.0) limit) }
+// Fixed data or a limit.
+fn plain_layout<'v>(attribute: Attribute, pattern: u32) -> Layout<'v>
+    ensures { shape result ≡ plain (fixed_words attribute.0) pattern }
 {
     let words = fixed_words(attribute);
-    Some(Layout::Plain {
-        words,
-        pattern: limit,
-    })
+    Layout::Plain { words, pattern }
 }
 
 fn content_layout<'v>(attribute: Attribute, most: u16, bytes: &'v [u8]) -> Layout<'v>
     ensures { shape result ≡ content_shape attribute.0 most bytes.now }
 {
     if attribute.is_list() {
-        return Layout::Headed { most, bytes };
-    }
-    let words = fixed_words(attribute);
-    Layout::Plain {
-        words,
-        pattern: pattern_of(bytes),
+        Layout::Headed { most, bytes }
+    } else {
+        plain_layout(attribute, pattern_of(bytes))
     }
 }
 
@@ -68,17 +61,16 @@ fn content_layout<'v>(attribute: Attribute, most: u16, bytes: &'v [u8]) -> Layou
 pub fn layout_of<'v>(view: View<'v>, element: Element) -> Option<Layout<'v>>
     ensures { option_map shape result ≡ shape_of (seen view.entry) (element_number element) }
 {
-    match (element, view.limits) {
-        (Element::Name, _) => text_layout(60, view.name),
-        (Element::Attribute, _) => Some(Layout::Plain {
+    match element {
+        Element::Name => text_layout(NAME_MOST as u16, view.name),
+        Element::Attribute => Some(Layout::Plain {
             words: 2,
             pattern: view.attribute.0,
         }),
-        (Element::Unit, _) => text_layout(12, view.unit),
-        (Element::Lower, Some(limits)) => limit_layout(view.attribute, limits.lower),
-        (Element::Upper, Some(limits)) => limit_layout(view.attribute, limits.upper),
-        (Element::Lower | Element::Upper, None) => None,
-        (Element::Content | Element::Closing | Element::Number, _) => Some(content_layout(
+        Element::Unit => text_layout(UNIT_MOST as u16, view.unit),
+        Element::Lower => Some(plain_layout(view.attribute, view.limits?.lower)),
+        Element::Upper => Some(plain_layout(view.attribute, view.limits?.upper)),
+        Element::Content | Element::Closing | Element::Number => Some(content_layout(
             view.attribute,
             view.most,
             view.content,
@@ -91,8 +83,8 @@ impl Layout<'_> {
         ensures { result ≡ word_count (shape self.now) }
     {
         match self {
-            Layout::Plain { words, pattern: _ } => usize::from(*words),
-            Layout::Headed { most: _, bytes } => 2 + (bytes.len() + 1) / 2,
+            Layout::Plain { words, .. } => usize::from(*words),
+            Layout::Headed { bytes, .. } => 2 + bytes.len().div_ceil(2),
         }
     }
 
@@ -100,12 +92,12 @@ impl Layout<'_> {
     pub fn word_at(&self, k: usize) -> u16
         ensures { result ≡ word_at (shape self.now) k }
     {
-        match self {
-            Layout::Plain { words: _, pattern } if k == 1 => (*pattern % 0x1_0000) as u16,
-            Layout::Plain { words: _, pattern } => (*pattern / 0x1_0000) as u16,
-            Layout::Headed { most: _, bytes } if k == 1 => (bytes.len() % 0x1_0000) as u16,
-            Layout::Headed { most, bytes: _ } if k == 2 => *most,
-            Layout::Headed { most: _, bytes } => word_in(bytes, k),
+        match (self, k) {
+            (Layout::Plain { pattern, .. }, 1) => (*pattern % 0x1_0000) as u16,
+            (Layout::Plain { pattern, .. }, _) => (*pattern / 0x1_0000) as u16,
+            (Layout::Headed { bytes, .. }, 1) => (bytes.len() % 0x1_0000) as u16,
+            (Layout::Headed { most, .. }, 2) => *most,
+            (Layout::Headed { bytes, .. }, _) => word_in(bytes, k),
         }
     }
 }
@@ -114,11 +106,7 @@ impl Layout<'_> {
 fn word_in(bytes: &[u8], k: usize) -> u16
     ensures { result ≡ word (slice_index bytes.now (2 * (k - 3))) (slice_index bytes.now (2 * (k - 3) + 1)) }
 {
-    let place = k.saturating_sub(3);
-    if place >= bytes.len() {
-        return 0;
-    }
-    u16::from(byte_at(bytes, 2 * place)) + 256 * u16::from(byte_at(bytes, 2 * place + 1))
+    word_at(bytes, k.saturating_sub(3).saturating_mul(2))
 }
 
 // Reading word k of so many words: it fails past the end, and where "last" comes too early.

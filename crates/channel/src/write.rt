@@ -8,6 +8,7 @@ use crate::code::Digit;
 use crate::layout::fixed_words;
 use block::attribute::Attribute;
 use block::idn::Idn;
+use block::idns;
 use block::keeper::Keeper;
 use block::phase::Phase;
 
@@ -15,17 +16,14 @@ use block::phase::Phase;
 pub fn is_timing(idn: Idn) -> bool
     ensures { result ≡ is_timing idn.0 }
 {
-    match idn.0 {
-        1 | 2 | 3 | 5 | 6 | 7 | 9 | 10 => true,
-        _ => false,
-    }
+    idns::is_timing(idn)
 }
 
 // A timing outside phase 2, or a block that is protected in this phase.
 pub fn is_locked(phase: Phase, idn: Idn, attribute: Attribute) -> bool
     ensures { result ≡ is_locked (phase_number phase) idn.0 attribute.0 }
 {
-    (is_timing(idn) && phase.number() != 2) || attribute.is_protected(phase)
+    (idns::is_timing(idn) && phase != Phase::Two) || attribute.is_protected(phase)
 }
 
 // The number of the final word of data of this attribute, where a list has n bytes.
@@ -33,7 +31,7 @@ pub fn final_word(attribute: Attribute, n: u16) -> usize
     ensures { result ≡ final_word attribute.0 n }
 {
     if attribute.is_list() {
-        2 + (usize::from(n) + 1) / 2
+        2 + usize::from(n).div_ceil(2)
     } else {
         usize::from(fixed_words(attribute))
     }
@@ -52,6 +50,7 @@ fn is_broken(attribute: Attribute, n: u16) -> bool
 }
 
 // The tests of word k of a write, in their order, where n is the list's length.
+// stays: seven parameters, since they travel together at this one call, and a struct would be built only to be taken apart.
 pub fn check_write(
     keeper: Keeper,
     locked: bool,
