@@ -1,6 +1,6 @@
-mod Pushing
 mod Small
 mod Others
 mod Naming
 mod Checking
 mod Writing
+mod Stepping

@@ -1,13 +1,13 @@
 -- Names that are pushed one by one are the list of names as bytes. Assumes nothing.
 use Rattle.std.proofs.Common.{◌≡◌, ℕ, ◌+◌, ◌<◌, ◌≤◌, Bool, true, false, cond, eqb, leb, List, [], ◌∷◌, ◌++◌, length, get_or, drop, Some, None, Option, sym, refl, ap, ◌∙◌, append_assoc, append-nil, arith, length-append}
 use Rattle.std.proofs.lemmas.Bool.{cond-true, le-leb, ne_eqb}
-use Rattle.block.specs.Lists.{place_of, all_kept}
+use Rattle.block.specs.Lists.{place_of, block_at, block_of, all_kept}
 use Rattle.block.specs.Numbers.{word, words_of}
 use Rattle.block.proofs.Lists.{nth_kept}
 use Rattle.block.proofs.Words.{words_more}
 use Rattle.block.specs.Blocks.{Block}
 use Rattle.channel.specs.Timings.{named}
-use Rattle.service.specs.Names.{block_at, block_of, is_to_name, invalid_among}
+use Rattle.service.specs.Names.{is_to_name, invalid_among}
 use Rattle.service.specs.Steps.{is_empty}
 use Rattle.service.proofs.Small.{content_small}
 use Rattle.service.specs.Words.{kept_most, bytes_of, pushed, word_bytes}

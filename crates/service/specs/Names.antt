@@ -1,24 +1,10 @@
 -- What the checks S-0-0127 and S-0-0128 name, from the blocks as they stand. Assumes nothing.
 use Rattle.std.specs.Prelude.{ℕ, ◌%◌, Bool, false, cond, not, ◌&&◌, List, [], ◌∷◌, Some, None, Option, ◌==◌}
-use Rattle.std.specs.List.{slice_get}
-use Rattle.block.specs.Numbers.{bit, pattern, words_of}
-use Rattle.block.specs.Blocks.{Block}
-use Rattle.block.specs.Lists.{place_of}
+use Rattle.block.specs.Numbers.{pattern, words_of}
+use Rattle.block.specs.Blocks.{Block, is_invalid}
+use Rattle.block.specs.Lists.{block_of}
 use Rattle.channel.specs.declared.timing.Timings.{Timings}
 use Rattle.channel.specs.Timings.{timing_names}
-
--- the block at a place, if there is a place
-abbrev pub block_at : List Block → Option ℕ → Option Block
-block_at bs None = None
-block_at bs (Some place) = slice_get bs place
-
--- the block of an IDN
-abbrev pub block_of : List Block → ℕ → Option Block
-block_of bs idn = block_at bs (place_of bs idn)
-
--- status bit 8: the data are invalid
-abbrev pub is_invalid : Block → Bool
-is_invalid b = bit 0x100 b.status
 
 -- the two-byte value of a block that is there and valid
 abbrev pub valid_value : Option Block → Option ℕ

@@ -1,27 +1,41 @@
 -- What a step of the service channel may change: blocks, pass mark, channel. Assumes nothing.
-use Rattle.std.specs.Prelude.{ℕ, ◌+◌, Bool, true, false, cond, ◌&&◌, List, [], take, Some, None, Option, ◌==◌}
+use Rattle.std.specs.Prelude.{ℕ, ◌+◌, Bool, true, false, cond, ◌&&◌, List, [], Some, None, Ok, Err, Option, Result, ◌==◌}
+use Rattle.std.specs.Result.{is_err}
 use Rattle.block.specs.Blocks.{Block}
+use Rattle.channel.specs.declared.fault.Code.{Code}
+use Rattle.channel.specs.Codes.{code_of}
 use Rattle.channel.specs.Controls.{element_number}
-use Rattle.service.specs.declared.kept.Kept.{Kept}
 use Rattle.service.specs.declared.link.Head.{Head}
 use Rattle.service.specs.declared.link.Link.{Link}
 use Rattle.service.specs.declared.link.Transfer.{Transfer}
 use Rattle.service.specs.declared.service.Service.{Service}
 
+-- the channel: the handshake, the open block by its place, a transfer, and the last answer
+pub record Channel : Type 0 where
+  pub ahs : Bool
+  pub place : Option ℕ
+  pub transfer : Option Transfer
+  pub error : Bool
+  pub info : ℕ
+
+-- what an answer puts into the service info: its word, or the number of its code
+abbrev pub info_of : Result ℕ Code → ℕ
+info_of (Ok word) = word
+info_of (Err code) = code_of (element_number code.element) code.digit
+
+abbrev pub channel_of : Link → Channel
+channel_of l = record { ahs = l.ahs; place = l.place; transfer = l.transfer; error = is_err l.answer; info = info_of l.answer }
+
 -- the blocks of the store, the pass mark, the channel, and the bytes of the words of a write that goes on
 pub record State : Type 0 where
   pub blocks : List Block
   pub mark : Bool
-  pub link : Link
+  pub link : Channel
   pub words : List ℕ
-
--- the bytes that are kept
-abbrev pub kept_bytes : Kept → List ℕ
-kept_bytes k = take k.count k.cells
 
 -- the state of a service over a store
 abbrev pub viewed : {S : Type 0} → (S → List Block) → Service S → State
-viewed blocks s = record { blocks = blocks s.store; mark = s.mark; link = s.link; words = kept_bytes s.kept }
+viewed blocks s = record { blocks = blocks s.store; mark = s.mark; link = channel_of s.link; words = s.kept }
 
 -- what a write needs to know of a block
 abbrev pub head_of : Block → Head

@@ -4,7 +4,7 @@ use Rattle.std.specs.List.{slice_get}
 use Rattle.block.specs.declared.idn.Idn.{Idn}
 use Rattle.block.specs.Attributes.{is_command}
 use Rattle.block.specs.Blocks.{Block}
-use Rattle.block.specs.Lists.{place_of}
+use Rattle.block.specs.Lists.{place_of, block_of}
 use Rattle.block.specs.Values.{value_fault, cause_of}
 use Rattle.channel.specs.declared.control.Element.TheVariants.{Closing, Number, Name, Attribute, Unit, Lower, Upper, Content}
 use Rattle.channel.specs.declared.control.Element.{Element}
@@ -17,7 +17,7 @@ use Rattle.channel.specs.Writes.{is_locked, write_rule}
 use Rattle.channel.specs.Commands.{is_active, runs_in, command_rule}
 use Rattle.service.specs.Words.{word_bytes, pushed, written_length, written_data}
 use Rattle.service.specs.Changes.{replaced, status_set, accepted, accepted_at}
-use Rattle.service.specs.Names.{block_of, names_for_phase_3, names_for_phase_4}
+use Rattle.service.specs.Names.{names_for_phase_3, names_for_phase_4}
 use Rattle.service.specs.declared.link.Head.{Head}
 use Rattle.service.specs.States.{State, head_of, next_word, words_so_far, ended, going}
 
@@ -197,28 +197,33 @@ number_step s ahs write last info =
     (cond last (opening_step s ahs info) (ended s.blocks s.mark ahs s.link.place true (code_of 1 Misused)))
     (with_open s ahs s.link.place (λ place b. ended s.blocks s.mark ahs s.link.place false b.status))
 
+-- a step that writes an element from 2 to 6: they are only to be read
+abbrev pub refusing_step : State → Bool → Element → Block → State
+refusing_step s ahs element b =
+    ended s.blocks s.mark ahs s.link.place true (code_of (element_number element) (write_refusal (shape_of b (element_number element))))
+
 -- elements 2 to 6: to be read only
 abbrev pub part_step : State → Bool → Element → Bool → Bool → State
 part_step s ahs element write last =
-    with_open s ahs s.link.place (λ place b. cond write
-    (ended s.blocks s.mark ahs s.link.place true (code_of (element_number element) (write_refusal (shape_of b (element_number element)))))
-    (read_step s ahs element b last))
+    with_open s ahs s.link.place (λ place b. cond write (refusing_step s ahs element b) (read_step s ahs element b last))
 
 -- element 7: the operation data
 abbrev pub content_step : ℕ → Option Idn → State → Bool → Bool → Bool → ℕ → State
 content_step phase out s ahs write last info =
     with_open s ahs s.link.place (λ place b. cond write (write_step phase out s ahs place (head_of b) last info) (read_step s ahs Content b last))
 
+-- one step on an element
+abbrev pub step_on : ℕ → Option Idn → State → Bool → Element → Bool → Bool → ℕ → State
+step_on phase out s ahs Closing write last info = closing_step s ahs write
+step_on phase out s ahs Number write last info = number_step s ahs write last info
+step_on phase out s ahs Name write last info = part_step s ahs Name write last
+step_on phase out s ahs Attribute write last info = part_step s ahs Attribute write last
+step_on phase out s ahs Unit write last info = part_step s ahs Unit write last
+step_on phase out s ahs Lower write last info = part_step s ahs Lower write last
+step_on phase out s ahs Upper write last info = part_step s ahs Upper write last
+step_on phase out s ahs Content write last info = content_step phase out s ahs write last info
+
 -- one step
 abbrev pub step : ℕ → Option Idn → State → ℕ → ℕ → State
 step phase out s control info =
-    elim (element_named (element_of control)) [
-      | Closing ↦ closing_step s (handshake control) (is_write control)
-      | Number ↦ number_step s (handshake control) (is_write control) (is_last control) info
-      | Name ↦ part_step s (handshake control) Name (is_write control) (is_last control)
-      | Attribute ↦ part_step s (handshake control) Attribute (is_write control) (is_last control)
-      | Unit ↦ part_step s (handshake control) Unit (is_write control) (is_last control)
-      | Lower ↦ part_step s (handshake control) Lower (is_write control) (is_last control)
-      | Upper ↦ part_step s (handshake control) Upper (is_write control) (is_last control)
-      | Content ↦ content_step phase out s (handshake control) (is_write control) (is_last control) info
-    ]
+    step_on phase out s (handshake control) (element_named (element_of control)) (is_write control) (is_last control) info

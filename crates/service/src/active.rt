@@ -3,7 +3,8 @@ ghost use Rattle.std.specs.Prelude.{◌≡◌, not, ◌&&◌, ◌==◌};
 ghost use Rattle.std.specs.List.{slice_get};
 ghost use Rattle.std.specs.Option.{option_map};
 ghost use Rattle.block.specs.Blocks.{seen};
-ghost use Rattle.service.specs.Names.{block_of, is_to_name, valid_value};
+ghost use Rattle.block.specs.Lists.{block_of};
+ghost use Rattle.service.specs.Names.{is_to_name, valid_value};
 ghost use Rattle.service.specs.Steps.{is_active_command, others_active, is_recalled};
 
 use block::idn::Idn;

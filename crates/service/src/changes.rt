@@ -3,7 +3,6 @@ ghost use Rattle.std.specs.Prelude.{◌≡◌};
 ghost use Rattle.block.specs.Lists.{place_of};
 ghost use Rattle.block.specs.Values.{value_fault};
 ghost use Rattle.service.specs.Changes.{accepted, accepted_at, replaced};
-ghost use Rattle.service.specs.States.{kept_bytes};
 ghost use Rattle.service.specs.Words.{written_data};
 
 use crate::kept::Kept;
@@ -38,7 +37,7 @@ pub(crate) fn written_fault<S: Store>(
     head: Head,
     n: u16,
 ) -> Option<ValueFault>
-    ensures { result ≡ value_fault (S.Store.blocks store.now) head.attribute.0 head.limits (written_data head.attribute.0 n (kept_bytes kept.now)) }
+    ensures { result ≡ value_fault (S.Store.blocks store.now) head.attribute.0 head.limits (written_data head.attribute.0 n kept.now) }
 {
     value_fault(
         store,
@@ -56,7 +55,7 @@ pub(crate) fn accept_written<S: Store>(
     attribute: Attribute,
     n: u16,
 )
-    ensures { S.Store.blocks store.new ≡ accepted (S.Store.blocks store.old) place (written_data attribute.0 n (kept_bytes kept.now)) }
+    ensures { S.Store.blocks store.new ≡ accepted (S.Store.blocks store.old) place (written_data attribute.0 n kept.now) }
 {
     accept(store, place, kept.written(attribute, n));
 }
@@ -69,7 +68,7 @@ pub(crate) fn replace_written<S: Store>(
     attribute: Attribute,
     n: u16,
 )
-    ensures { S.Store.blocks store.new ≡ replaced (S.Store.blocks store.old) place (written_data attribute.0 n (kept_bytes kept.now)) }
+    ensures { S.Store.blocks store.new ≡ replaced (S.Store.blocks store.old) place (written_data attribute.0 n kept.now) }
 {
     let _ = store.replace(place, kept.written(attribute, n));
 }

@@ -3,7 +3,6 @@ ghost use Rattle.std.specs.Prelude.{◌≡◌, ◌≤◌, [], length, if◌then�
 ghost use Rattle.block.specs.Numbers.{words_of};
 ghost use Rattle.channel.specs.Timings.{timing_names};
 ghost use Rattle.service.specs.Names.{timings_of, invalid_among, names_for_phase_3, names_for_phase_4};
-ghost use Rattle.service.specs.States.{kept_bytes};
 ghost use Rattle.service.specs.Words.{pushed, word_bytes};
 
 use crate::active::{block_of, is_to_name, valid_value};
@@ -30,7 +29,7 @@ pub fn timings_of<S: Store>(store: &S) -> Timings
 
 // One name more, if it is to be named.
 fn push_if(names: &mut Kept, named: bool, idn: u16)
-    ensures { kept_bytes names.new ≡ (if named then pushed (kept_bytes names.old) idn else kept_bytes names.old) }
+    ensures { names.new ≡ (if named then pushed names.old idn else names.old) }
 {
     if named {
         names.push(idn);
@@ -39,7 +38,7 @@ fn push_if(names: &mut Kept, named: bool, idn: u16)
 
 // The timings to name, in the order of their IDNs.
 fn name_timings(names: &mut Kept, timings: &Timings)
-    ensures { kept_bytes names.new ≡ word_bytes (timing_names timings.now) }
+    ensures { names.new ≡ word_bytes (timing_names timings.now) }
 {
     names.clear();
     push_if(names, timings.names_ncyc(), 1);
@@ -54,7 +53,7 @@ fn name_timings(names: &mut Kept, timings: &Timings)
 
 // What S-0-0127 names.
 pub(crate) fn name_for_phase_3<S: Store>(store: &S, names: &mut Kept)
-    ensures { kept_bytes names.new ≡ word_bytes (names_for_phase_3 (S.Store.blocks store.now)) }
+    ensures { names.new ≡ word_bytes (names_for_phase_3 (S.Store.blocks store.now)) }
 {
     let timings = timings_of(store);
     name_timings(names, &timings);
@@ -62,7 +61,7 @@ pub(crate) fn name_for_phase_3<S: Store>(store: &S, names: &mut Kept)
 
 // What S-0-0128 names: the invalid entries of S-0-0019.
 pub(crate) fn name_for_phase_4<S: Store>(store: &S, names: &mut Kept)
-    ensures { kept_bytes names.new ≡ word_bytes (names_for_phase_4 (S.Store.blocks store.now)) }
+    ensures { names.new ≡ word_bytes (names_for_phase_4 (S.Store.blocks store.now)) }
 {
     names.clear();
     let Some(view) = block_of(store, Idn(19)) else {
@@ -74,8 +73,8 @@ pub(crate) fn name_for_phase_4<S: Store>(store: &S, names: &mut Kept)
 // Names the invalid ones among a list of IDNs.
 fn name_invalid<S: Store>(store: &S, entries: &[u8], names: &mut Kept)
     requires entries_len_bound { length entries.now ≤ 1020 }
-    requires names_value { kept_bytes names.old ≡ [] }
-    ensures { kept_bytes names.new ≡ word_bytes (invalid_among (S.Store.blocks store.now) (words_of entries.now)) }
+    requires names_value { names.old ≡ [] }
+    ensures { names.new ≡ word_bytes (invalid_among (S.Store.blocks store.now) (words_of entries.now)) }
 {
     let mut i = 0;
     while entries.len() - i >= 2 {

@@ -3,7 +3,7 @@ ghost use Rattle.std.specs.Prelude.{◌≡◌, true, false, length, IfSome, if�
 ghost use Rattle.block.specs.Lists.{place_of};
 ghost use Rattle.block.specs.Phases.{phase_number};
 ghost use Rattle.service.specs.Changes.{accepted_at, status_set};
-ghost use Rattle.service.specs.States.{viewed, kept_bytes};
+ghost use Rattle.service.specs.States.{viewed};
 ghost use Rattle.service.specs.Steps.{Check, check_of, checked, commanded, command_verdict, finish_command, stock_of};
 ghost use Rattle.service.specs.Words.{written_data, word_bytes};
 ghost use Rattle.std.specs.Option.{option_map};
@@ -41,7 +41,7 @@ fn command_verdict<S: Store>(
 // Runs a check, if the IDN is that of one: keeps its names, and gives the IDN of its list.
 fn run_check<S: Store>(store: &S, kept: &mut Kept, idn: Idn) -> Option<Idn>
     ensures list { option_map (λ i. i.0) result ≡ option_map (λ c. c.list) (check_of idn.0 (S.Store.blocks store.now)) }
-    ensures names { IfSome (check_of idn.0 (S.Store.blocks store.now)) (λ c. kept_bytes kept.new ≡ word_bytes c.names) }
+    ensures names { IfSome (check_of idn.0 (S.Store.blocks store.now)) (λ c. kept.new ≡ word_bytes c.names) }
 {
     match idn.0 {
         127 => {
@@ -58,7 +58,7 @@ fn run_check<S: Store>(store: &S, kept: &mut Kept, idn: Idn) -> Option<Idn>
 
 // Puts the names that a check found into its list.
 fn list_names<S: Store>(store: &mut S, kept: &Kept, list: Idn)
-    ensures { S.Store.blocks store.new ≡ accepted_at (S.Store.blocks store.old) (place_of (S.Store.blocks store.old) list.0) (kept_bytes kept.now) }
+    ensures { S.Store.blocks store.new ≡ accepted_at (S.Store.blocks store.old) (place_of (S.Store.blocks store.old) list.0) kept.now }
 {
     accept_at(store, list, kept.bytes());
 }
@@ -66,8 +66,8 @@ fn list_names<S: Store>(store: &mut S, kept: &Kept, list: Idn)
 impl<S: Store> Service<S> {
     // A check ends in its step: its list gets the names, and none means status 3 and the pass mark.
     fn end_check(&mut self, place: usize, list: Idn)
-        ensures blocks { S.Store.blocks self.new.store ≡ status_set (accepted_at (S.Store.blocks self.old.store) (place_of (S.Store.blocks self.old.store) list.0) (kept_bytes self.old.kept)) place (if nat_eq (length (kept_bytes self.old.kept)) 0 then 3 else 15) }
-        ensures mark { self.new.mark ≡ (if nat_eq (length (kept_bytes self.old.kept)) 0 then true else self.old.mark) }
+        ensures blocks { S.Store.blocks self.new.store ≡ status_set (accepted_at (S.Store.blocks self.old.store) (place_of (S.Store.blocks self.old.store) list.0) self.old.kept) place (if nat_eq (length self.old.kept) 0 then 3 else 15) }
+        ensures mark { self.new.mark ≡ (if nat_eq (length self.old.kept) 0 then true else self.old.mark) }
         ensures link { self.new.link ≡ self.old.link }
     {
         let passed = self.kept.is_empty();
@@ -93,7 +93,7 @@ impl<S: Store> Service<S> {
 
     // A word that the command takes: its data are stored, and word 3 runs a check to its end.
     fn take_word(&mut self, place: usize, head: Head, n: u16, info: u16, status: u16)
-        ensures stock { stock_of (viewed S.Store.blocks self.new) ≡ commanded (S.Store.blocks self.old.store) self.old.mark place head.idn.0 (written_data head.attribute.0 n (kept_bytes self.old.kept)) info status }
+        ensures stock { stock_of (viewed S.Store.blocks self.new) ≡ commanded (S.Store.blocks self.old.store) self.old.mark place head.idn.0 (written_data head.attribute.0 n self.old.kept) info status }
         ensures link { self.new.link ≡ self.old.link }
     {
         replace_written(&mut self.store, &self.kept, place, head.attribute, n);
@@ -114,14 +114,14 @@ impl<S: Store> Service<S> {
         n: u16,
         info: u16,
     )
-        ensures { viewed S.Store.blocks self.new ≡ finish_command (phase_number phase) out (viewed S.Store.blocks self.old) ahs place head (written_data head.attribute.0 n (kept_bytes self.old.kept)) info }
+        ensures { viewed S.Store.blocks self.new ≡ finish_command (phase_number phase) out (viewed S.Store.blocks self.old) ahs place head (written_data head.attribute.0 n self.old.kept) info }
     {
         match command_verdict(&self.store, phase, out, place, head, info) {
             Err(digit) => self.fail(ahs, Element::Content, digit),
             Ok(status) => {
                 self.take_word(place, head, n, info, status);
                 let open = self.link.place;
-                self.end(ahs, open, false, 0);
+                self.end(ahs, open, Ok(0));
             }
         }
     }

@@ -5,7 +5,6 @@ mod active;
 pub mod changes;
 pub mod checks;
 mod commands;
-mod keeping;
 pub mod kept;
 pub mod link;
 pub mod service;

@@ -1,9 +1,13 @@
 // What the channel holds: the handshake, the open block, a transfer and the last answer.
+ghost use Rattle.std.specs.Prelude.{◌≡◌};
+ghost use Rattle.service.specs.States.{info_of};
+
 use block::attribute::Attribute;
 use block::idn::Idn;
 use block::keeper::Keeper;
 use block::limits::Limits;
 use channel::control::Element;
+use channel::fault::Code;
 
 // A run of steps on one element in one direction, and how many words it had.
 #[derive(Clone, Copy, PartialEq, Eq, Debug)]
@@ -19,8 +23,27 @@ pub struct Link {
     // the open block, by its place in the store
     pub place: Option<usize>,
     pub transfer: Option<Transfer>,
-    pub error: bool,
-    pub info: u16,
+    pub answer: Result<u16, Code>,
+}
+
+impl Link {
+    // No block is open, and AHS is 0.
+    pub const CLOSED: Link = Link {
+        ahs: false,
+        place: None,
+        transfer: None,
+        answer: Ok(0),
+    };
+
+    // The last answer as the telegram carries it: its word, or the number of its code.
+    pub fn info(&self) -> u16
+        ensures { result ≡ info_of self.now.answer }
+    {
+        match self.answer {
+            Ok(word) => word,
+            Err(code) => code.number(),
+        }
+    }
 }
 
 // What a write needs to know of a block.

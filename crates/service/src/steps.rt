@@ -2,33 +2,34 @@
 ghost use Rattle.std.specs.Prelude.{◌≡◌, true, false, Some};
 ghost use Rattle.std.specs.List.{slice_get};
 ghost use Rattle.std.specs.Option.{option_map};
+ghost use Rattle.std.specs.Result.{is_err};
 ghost use Rattle.block.specs.Phases.{phase_number};
 ghost use Rattle.channel.specs.Codes.{code_of};
 ghost use Rattle.channel.specs.Controls.{element_number};
 ghost use Rattle.channel.specs.Layouts.{shape_of};
-ghost use Rattle.service.specs.States.{viewed, head_of, ended, next_word};
-ghost use Rattle.service.specs.Steps.{opening_step, with_block, read_word, read_step, write_refusal, step};
+ghost use Rattle.service.specs.States.{viewed, info_of, head_of, ended, next_word};
+ghost use Rattle.service.specs.Steps.{opening_step, with_block, read_word, read_step, write_refusal, refusing_step, step};
 
 use crate::link::{Head, Link, Transfer};
 use crate::service::Service;
 use block::idn::Idn;
 use block::phase::Phase;
-use channel::code::{Digit, code};
+use channel::code::Digit;
 use channel::control::{Control, Element};
+use channel::fault::Code;
 use channel::layout::{layout_of, read_fault};
 use store::store::Store;
 
 impl<S: Store> Service<S> {
     // Ends or drops a transfer with an answer; none of its words is left.
-    pub(crate) fn end(&mut self, ahs: bool, place: Option<usize>, error: bool, info: u16)
-        ensures { viewed S.Store.blocks self.new ≡ ended (S.Store.blocks self.old.store) self.old.mark ahs place error info }
+    pub(crate) fn end(&mut self, ahs: bool, place: Option<usize>, answer: Result<u16, Code>)
+        ensures { viewed S.Store.blocks self.new ≡ ended (S.Store.blocks self.old.store) self.old.mark ahs place (is_err answer) (info_of answer) }
     {
         self.link = Link {
             ahs,
             place,
             transfer: None,
-            error,
-            info,
+            answer,
         };
         self.kept.clear();
     }
@@ -38,8 +39,7 @@ impl<S: Store> Service<S> {
         ensures { viewed S.Store.blocks self.new ≡ ended (S.Store.blocks self.old.store) self.old.mark ahs self.old.link.place true (code_of (element_number element) digit) }
     {
         let place = self.link.place;
-        let info = code(element, digit);
-        self.end(ahs, place, true, info);
+        self.end(ahs, place, Err(Code { element, digit }));
     }
 
     // Opens the block of an IDN; an IDN that is not in the store closes the channel.
@@ -47,10 +47,14 @@ impl<S: Store> Service<S> {
         ensures { viewed S.Store.blocks self.new ≡ opening_step (viewed S.Store.blocks self.old) ahs idn.0 }
     {
         let Some(place) = self.store.find(idn) else {
-            self.end(ahs, None, true, 0x1001);
+            let unknown = Code {
+                element: Element::Number,
+                digit: Digit::Missing,
+            };
+            self.end(ahs, None, Err(unknown));
             return;
         };
-        self.end(ahs, Some(place), false, 0);
+        self.end(ahs, Some(place), Ok(0));
     }
 
     // The word that a step reads of the block at a place, or what is wrong with it.
@@ -86,7 +90,7 @@ impl<S: Store> Service<S> {
 
     // A step that writes an element from 2 to 6: they are only to be read.
     fn refuse_write(&mut self, ahs: bool, place: usize, element: Element)
-        ensures { viewed S.Store.blocks self.new ≡ with_block (viewed S.Store.blocks self.old) ahs (slice_get (S.Store.blocks self.old.store) place) (λ b. ended (S.Store.blocks self.old.store) self.old.mark ahs self.old.link.place true (code_of (element_number element) (write_refusal (shape_of b (element_number element))))) }
+        ensures { viewed S.Store.blocks self.new ≡ with_block (viewed S.Store.blocks self.old) ahs (slice_get (S.Store.blocks self.old.store) place) (λ b. refusing_step (viewed S.Store.blocks self.old) ahs element b) }
     {
         match self.write_refusal(place, element) {
             None => self.fail(ahs, Element::Closing, Digit::Missing),
@@ -108,7 +112,7 @@ impl<S: Store> Service<S> {
         let open = self.link.place;
         match self.status_at(place) {
             None => self.fail(ahs, Element::Closing, Digit::Missing),
-            Some(status) => self.end(ahs, open, false, status),
+            Some(status) => self.end(ahs, open, Ok(status)),
         }
     }
 
@@ -139,9 +143,9 @@ impl<S: Store> Service<S> {
         };
         match read {
             Err(digit) => self.fail(ahs, element, digit),
-            Ok(word) if last => self.end(ahs, link.place, false, word),
+            Ok(word) if last => self.end(ahs, link.place, Ok(word)),
             Ok(word) => {
-                self.end(ahs, link.place, false, word);
+                self.end(ahs, link.place, Ok(word));
                 self.link.transfer = Some(Transfer {
                     element,
                     write: false,
@@ -159,7 +163,7 @@ impl<S: Store> Service<S> {
         let last = control.is_last();
         match (self.link.place, control.element(), control.is_write()) {
             (_, Element::Closing, true) => self.fail(ahs, Element::Closing, Digit::Misused),
-            (_, Element::Closing, false) => self.end(ahs, None, false, 0),
+            (_, Element::Closing, false) => self.end(ahs, None, Ok(0)),
             (_, Element::Number, true) if !last => self.fail(ahs, Element::Number, Digit::Misused),
             (_, Element::Number, true) => self.open_block(ahs, Idn(info)),
             (None, _, _) => self.fail(ahs, Element::Closing, Digit::Missing),

@@ -2,7 +2,7 @@
 ghost use Rattle.std.specs.Prelude.{◌≡◌, true};
 ghost use Rattle.std.specs.List.{slice_get};
 ghost use Rattle.block.specs.Phases.{phase_number};
-ghost use Rattle.service.specs.States.{viewed, kept_bytes, head_of, goes_on, words_so_far};
+ghost use Rattle.service.specs.States.{viewed, head_of, goes_on, words_so_far};
 ghost use Rattle.service.specs.Steps.{finish_parameter, finish, write_fault, write_step, with_block};
 ghost use Rattle.service.specs.Words.{written_data, written_length, pushed};
 
@@ -21,7 +21,7 @@ use store::store::Store;
 impl<S: Store> Service<S> {
     // The right "last" of a write to a parameter.
     fn finish_parameter(&mut self, ahs: bool, place: usize, head: Head, n: u16)
-        ensures { viewed S.Store.blocks self.new ≡ finish_parameter (viewed S.Store.blocks self.old) ahs place head (written_data head.attribute.0 n (kept_bytes self.old.kept)) }
+        ensures { viewed S.Store.blocks self.new ≡ finish_parameter (viewed S.Store.blocks self.old) ahs place head (written_data head.attribute.0 n self.old.kept) }
     {
         if let Some(fault) = written_fault(&self.store, &self.kept, head, n) {
             self.fail(ahs, Element::Content, value_digit(fault));
@@ -30,7 +30,7 @@ impl<S: Store> Service<S> {
         accept_written(&mut self.store, &self.kept, place, head.attribute, n);
         self.mark = false;
         let open = self.link.place;
-        self.end(ahs, open, false, 0);
+        self.end(ahs, open, Ok(0));
     }
 
     // The right "last" of a write.
@@ -44,7 +44,7 @@ impl<S: Store> Service<S> {
         n: u16,
         info: u16,
     )
-        ensures { viewed S.Store.blocks self.new ≡ finish (phase_number phase) out (viewed S.Store.blocks self.old) ahs place head (written_data head.attribute.0 n (kept_bytes self.old.kept)) info }
+        ensures { viewed S.Store.blocks self.new ≡ finish (phase_number phase) out (viewed S.Store.blocks self.old) ahs place head (written_data head.attribute.0 n self.old.kept) info }
     {
         if head.attribute.is_command() {
             self.finish_command(ahs, phase, out, place, head, n, info);
@@ -101,8 +101,7 @@ impl<S: Store> Service<S> {
             ahs,
             place: open,
             transfer,
-            error: false,
-            info: 0,
+            answer: Ok(0),
         };
     }
 
@@ -128,7 +127,7 @@ impl<S: Store> Service<S> {
 
 // Drops the words of any other transfer than a write that goes on.
 fn drop_others(kept: &mut Kept, transfer: Option<Transfer>)
-    ensures { kept_bytes kept.new ≡ words_so_far transfer (kept_bytes kept.old) 7 true }
+    ensures { kept.new ≡ words_so_far transfer kept.old 7 true }
 {
     match transfer {
         Some(t) if t.write && t.element.number() == 7 => (),

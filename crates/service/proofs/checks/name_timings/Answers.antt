@@ -1,21 +1,20 @@
 use Rattle.std.proofs.Common.{◌≡◌, not, is_some, arith}
 use Rattle.std.proofs.lemmas.Bool.Decides.{nat_tests}
-use Rattle.service.specs.States.{kept_bytes}
 use Rattle.service.proofs.Naming.{eight_pushed, push_when}
 use Rattle.service.proofs.checks.name_timings.Goals as goal
 
 pub returns : goal.returns
 returns c =
     let t = c.args.timings.now in
-    let k0 = kept_bytes c.clear.new.self in
-    let k1 = kept_bytes c.push_if.new.names in
-    let k2 = kept_bytes c.push_if-2.new.names in
-    let k3 = kept_bytes c.push_if-3.new.names in
-    let k4 = kept_bytes c.push_if-4.new.names in
-    let k5 = kept_bytes c.push_if-5.new.names in
-    let k6 = kept_bytes c.push_if-6.new.names in
-    let k7 = kept_bytes c.push_if-7.new.names in
-    let k8 = kept_bytes c.push_if-8.new.names in
+    let k0 = c.clear.new.self in
+    let k1 = c.push_if.new.names in
+    let k2 = c.push_if-2.new.names in
+    let k3 = c.push_if-3.new.names in
+    let k4 = c.push_if-4.new.names in
+    let k5 = c.push_if-5.new.names in
+    let k6 = c.push_if-6.new.names in
+    let k7 = c.push_if-7.new.names in
+    let k8 = c.push_if-8.new.names in
     let n3 : c.is_none.result ≡ not (is_some t.least) = grind (arith, nat_tests) in
     let n5 : c.is_none-2.result ≡ not (is_some t.t5) = grind (arith, nat_tests) in
     let n10 : c.is_none-3.result ≡ not (is_some t.size) = grind (arith, nat_tests) in
