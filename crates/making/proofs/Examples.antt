@@ -5,7 +5,7 @@ use Rattle.block.specs.declared.keeper.Keeper.TheVariants.{Master, Drive, Channe
 use Rattle.block.specs.Blocks.{Block}
 use Rattle.refusal.specs.declared.Refusal.TheVariants.{Address, Order, Attribute, Content, Demanded}
 use Rattle.making.specs.Making.{making_verdict}
-use Rattle.making.specs.Demanded.{t_ncyc, t_scyc, t1min, t5, t1, t4, record_position, mdt_length, class_1_diagnostic, interface_status, phase_4_blocks, invalid_for_phase_3, invalid_for_phase_4, diagnostic_text, phase_3_check, phase_4_check}
+use Rattle.block.specs.Named.{t_ncyc, t_scyc, t1min, t5, t1, t4, record_position, mdt_length, class_1_diagnostic, interface_status, phase_4_blocks, invalid_for_phase_3, invalid_for_phase_4, diagnostic_text, phase_3_check, phase_4_check}
 
 abbrev plain : ℕ → Keeper → ℕ → ℕ → ℕ → List ℕ → Block
 plain n keeper status attribute most content =

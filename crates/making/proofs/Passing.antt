@@ -8,7 +8,7 @@ use Rattle.block.specs.declared.keeper.Keeper.{Keeper}
 use Rattle.block.specs.declared.keeper.Keeper.TheVariants.{Master, Drive, Channel, Nobody}
 use Rattle.block.specs.Attributes.{length_code, is_command, type_code, code_number, type_number}
 use Rattle.block.specs.Blocks.{Block}
-use Rattle.block.specs.Lists.{place_of}
+use Rattle.block.specs.Lists.{place_of, block_at}
 use Rattle.block.specs.Values.{value_fault}
 use Rattle.refusal.specs.declared.Refusal.{Refusal}
 use Rattle.refusal.specs.declared.Refusal.TheVariants.{Address, Order, Attribute, Content, Demanded}
@@ -20,7 +20,7 @@ use Rattle.making.specs.declared.table.Asked.TheVariants.{Nothing, Zero, Idle, R
 use Rattle.making.specs.Making.{or_next, blocks_verdict, making_verdict}
 use Rattle.making.specs.Passed.{AtRest, PassedBlock, HasForm, HasAsked, Stands, AllStand, Passed}
 use Rattle.making.specs.Rules.{address_fits, first_unordered, first_failing, attribute_fits, status_fits, valid_fits, value_fits, content_fits, command_fits, lower_of, lowest_unmet}
-use Rattle.making.specs.Met.{block_at, bytes_of, bytes_in, keeper_number, is_kept_by, is_zero, is_idle, form_fits, asked_fits, meets, met_by, demand_met, first_unmet}
+use Rattle.making.specs.Met.{bytes_of, bytes_in, keeper_number, is_kept_by, is_zero, is_idle, form_fits, asked_fits, meets, met_by, demand_met, first_unmet}
 use Rattle.making.specs.Table.{demanded}
 use Rattle.making.proofs.Scans.{none_failing, none_unordered, none_swapped, none_unmet}
 

@@ -1,68 +1,62 @@
--- A scan of the blocks or of the demands: one step on, at the end, and what it says where it found nothing. Assumes nothing.
-use Rattle.std.proofs.Common.{◌≡◌, ℕ, zero, suc, ◌+◌, ◌<◌, ◌≤◌, Bool, true, false, cond, List, [], ◌∷◌, length, get_or, drop, Some, None, Option, sym, refl, ap, ◌∙◌, subst, add-one, arith}
-use Rattle.std.specs.List.{slice_get}
-use Rattle.std.proofs.lemmas.List.{drop_more, drop_all}
+-- A scan of the blocks or of the demands: what it finds, and what it says where it found nothing. Assumes nothing.
+use Rattle.std.proofs.Common.{◌≡◌, ℕ, zero, suc, ◌+◌, ◌<◌, ◌≤◌, Bool, true, false, cond, not, List, [], ◌∷◌, drop, is_some, Some, None, Option, Bor, sym, refl, ap, ◌∙◌, subst, arith}
+use Rattle.std.specs.List.{find, slice_get}
+use Rattle.std.specs.Result.{is_ok}
+use Rattle.std.specs.Option.{MatchOption, option_map}
 use Rattle.std.proofs.lemmas.Bool.{cond-true, cond-false, lt-ltb, le-ltb}
 use Rattle.std.proofs.lemmas.Bool.Decides.{nat_tests}
 use Rattle.block.specs.declared.idn.Idn.{Idn}
-use Rattle.block.specs.Blocks.{Block}
+use Rattle.block.specs.declared.view.View.{View}
+use Rattle.block.specs.Blocks.{Block, seen}
+use Rattle.block.specs.Values.{ok_unless}
+use Rattle.block.proofs.Lists.{nth_drop}
 use Rattle.making.specs.declared.table.Demand.{Demand}
 use Rattle.making.specs.Rules.{idn_of, first_unordered, first_failing}
 use Rattle.making.specs.Met.{demand_met, first_unmet}
 
-drop_from : {X : Type 0} (xs : List X) (i : ℕ) (x : X) → Some x ≡ slice_get xs i → drop i xs ≡ x ∷ drop (suc i) xs
-drop_from [] i x h = absurd (grind arith)
-drop_from (y ∷ ys) zero x h = cc
-drop_from (y ∷ ys) (suc i) x h = drop_from ys i x h
+-- what may be at fault is well where nothing is
+pub ok_is : {E : Type 0} (o : Option E) → is_ok (ok_unless o) ≡ not (is_some o)
+ok_is None = refl
+ok_is (Some e) = refl
 
--- a list from the place of one of its items on
-drop_at : {X : Type 0} (xs : List X) (i : ℕ) (x : X) → Some x ≡ slice_get xs i → drop i xs ≡ x ∷ drop (i + 1) xs
-drop_at xs i x h = rw add-one (drop_from xs i x h)
+-- the first block that fails a test is what a search finds
+found_failing : (test : Block → Bool) (bs : List Block) → option_map idn_of (find (λ b. not (test b)) bs) ≡ first_failing test bs
+found_failing test [] = refl
+found_failing test (b ∷ bs) =
+    elim (test b) as (λ t. option_map idn_of (cond (not t) (Some b) (find (λ x. not (test x)) bs)) ≡ cond t (first_failing test bs) (Some (idn_of b))) [
+      | true ↦ found_failing test bs
+      | false ↦ refl
+    ]
 
--- within a list there is an item at each place
-pub nth_within : {X : Type 0} (xs : List X) (i : ℕ) → None ≡ slice_get xs i → i < length xs → ⊥
-nth_within [] i none h = omega arith
-nth_within (x ∷ xs) zero none h = grind arith
-nth_within (x ∷ xs) (suc i) none h = nth_within xs i none (omega arith)
+pub failing_found : (test : Block → Bool) (bs : List Block) (o : Option View) (r : Option Idn) → option_map seen o ≡ find (λ b. not (test b)) bs
+    → MatchOption o (r ≡ None) (λ v. r ≡ Some v.idn) → r ≡ first_failing test bs
+failing_found test bs None r found given = given ∙ ap (option_map idn_of) found ∙ found_failing test bs
+failing_found test bs (Some v) r found given = given ∙ ap (option_map idn_of) found ∙ found_failing test bs
+
+-- the same for the demands
+found_unmet : (bs : List Block) (ds : List Demand) → option_map (λ d. d.idn) (find (λ d. not (demand_met bs d)) ds) ≡ first_unmet bs ds
+found_unmet bs [] = refl
+found_unmet bs (d ∷ ds) =
+    elim (demand_met bs d) as (λ t. option_map (λ x. x.idn) (cond (not t) (Some d) (find (λ x. not (demand_met bs x)) ds)) ≡ cond t (first_unmet bs ds) (Some d.idn)) [
+      | true ↦ found_unmet bs ds
+      | false ↦ refl
+    ]
+
+pub unmet_found : (bs : List Block) (ds : List Demand) (o : Option (Bor Demand)) (r : Option Idn) → option_map (λ d. d.now) o ≡ find (λ d. not (demand_met bs d)) ds
+    → MatchOption o (r ≡ None) (λ d. r ≡ Some d.now.idn) → r ≡ first_unmet bs ds
+unmet_found bs ds None r found given = given ∙ ap (option_map (λ d. d.idn)) found ∙ found_unmet bs ds
+unmet_found bs ds (Some d) r found given = given ∙ ap (option_map (λ d. d.idn)) found ∙ found_unmet bs ds
 
 -- the scan for the order has come to the block b at place i, and what is left decides
 module _ (bs : List Block) (i before : ℕ) (left : first_unordered before (drop i bs) ≡ first_unordered 0 bs) where
   pub unordered_here : (b : Block) → Some b ≡ slice_get bs i → b.idn ≤ before → Some (idn_of b) ≡ first_unordered 0 bs
   unordered_here b at h =
-      sym (ap (first_unordered before) (drop_at bs i b at) ∙ cond-false _ _ _ (le-ltb before b.idn h)) ∙ left
+      sym (ap (first_unordered before) (nth_drop bs i b (sym at)) ∙ cond-false _ _ _ (le-ltb before b.idn h)) ∙ left
 
   pub unordered_next : (b : Block) → Some b ≡ slice_get bs i → before < b.idn
       → first_unordered b.idn (drop (i + 1) bs) ≡ first_unordered 0 bs
   unordered_next b at h =
-      sym (ap (first_unordered before) (drop_at bs i b at) ∙ cond-true _ _ _ (lt-ltb before b.idn h)) ∙ left
-
-  pub unordered_none : length bs ≤ i → None ≡ first_unordered 0 bs
-  unordered_none past = sym (ap (first_unordered before) (drop_all i bs past)) ∙ left
-
--- the same for a test of each block
-module _ (test : Block → Bool) (bs : List Block) (i : ℕ) (left : first_failing test (drop i bs) ≡ first_failing test bs) where
-  pub failing_here : (b : Block) → Some b ≡ slice_get bs i → false ≡ test b → Some (idn_of b) ≡ first_failing test bs
-  failing_here b at h = sym (ap (first_failing test) (drop_at bs i b at) ∙ cond-false _ _ _ (sym h)) ∙ left
-
-  pub failing_next : (b : Block) → Some b ≡ slice_get bs i → true ≡ test b
-      → first_failing test (drop (i + 1) bs) ≡ first_failing test bs
-  failing_next b at h = sym (ap (first_failing test) (drop_at bs i b at) ∙ cond-true _ _ _ (sym h)) ∙ left
-
-  pub failing_none : length bs ≤ i → None ≡ first_failing test bs
-  failing_none past = sym (ap (first_failing test) (drop_all i bs past)) ∙ left
-
--- the same for the demands
-module _ (bs : List Block) (ds : List Demand) (i : ℕ) (left : first_unmet bs (drop i ds) ≡ first_unmet bs ds) where
-  pub unmet_here : (d : Demand) → i < length ds → false ≡ demand_met bs (get_or ds i d)
-      → Some (get_or ds i d).idn ≡ first_unmet bs ds
-  unmet_here d in' h = sym (ap (first_unmet bs) (drop_more ds i d in') ∙ cond-false _ _ _ (sym h)) ∙ left
-
-  pub unmet_next : (d : Demand) → i < length ds → true ≡ demand_met bs (get_or ds i d)
-      → first_unmet bs (drop (i + 1) ds) ≡ first_unmet bs ds
-  unmet_next d in' h = sym (ap (first_unmet bs) (drop_more ds i d in') ∙ cond-true _ _ _ (sym h)) ∙ left
-
-  pub unmet_none : length ds ≤ i → None ≡ first_unmet bs ds
-  unmet_none past = sym (ap (first_unmet bs) (drop_all i ds past)) ∙ left
+      sym (ap (first_unordered before) (nth_drop bs i b (sym at)) ∙ cond-true _ _ _ (lt-ltb before b.idn h)) ∙ left
 
 -- where no block fails a test, each passes it
 pub none_failing : (test : Block → Bool) (bs : List Block) → first_failing test bs ≡ None

@@ -1,4 +1,3 @@
-pub mod Demanded
 pub mod Table
 pub mod Met
 pub mod Rules

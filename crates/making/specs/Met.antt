@@ -1,26 +1,16 @@
 -- Which demand a list of blocks does not meet. Assumes nothing.
 use Rattle.std.specs.Prelude.{ℕ, Bool, true, false, cond, not, ◌&&◌, List, [], ◌∷◌, length, Some, None, Option, ◌==◌, nat_le, slice_index}
-use Rattle.std.specs.List.{slice_get}
 use Rattle.block.specs.declared.idn.Idn.{Idn}
 use Rattle.block.specs.declared.keeper.Keeper.{Keeper}
 use Rattle.block.specs.declared.keeper.Keeper.TheVariants.{Master, Drive, Channel, Nobody}
 use Rattle.block.specs.Attributes.{length_code, is_command, type_code, code_number, type_number}
 use Rattle.block.specs.Blocks.{Block}
-use Rattle.block.specs.Lists.{place_of}
+use Rattle.block.specs.Lists.{block_of}
 use Rattle.making.specs.declared.table.Demand.{Demand}
 use Rattle.making.specs.declared.table.Form.{Form}
 use Rattle.making.specs.declared.table.Form.TheVariants.{Parameter, Command}
 use Rattle.making.specs.declared.table.Asked.{Asked}
 use Rattle.making.specs.declared.table.Asked.TheVariants.{Nothing, Zero, Idle, Room, RoomFor}
-
--- the block at a place that may be there
-abbrev pub block_at : List Block → Option ℕ → Option Block
-block_at blocks None = None
-block_at blocks (Some place) = slice_get blocks place
-
--- the first block of an IDN
-abbrev pub block_of : List Block → ℕ → Option Block
-block_of blocks n = block_at blocks (place_of blocks n)
 
 -- how many bytes the data of a block have that may be there
 abbrev pub bytes_in : Option Block → ℕ

@@ -4,6 +4,7 @@ use Rattle.std.specs.List.{slice_get}
 use Rattle.block.specs.declared.attribute.LengthCode.TheVariants.{ByteList}
 use Rattle.block.specs.declared.attribute.DataType.TheVariants.{Text}
 use Rattle.block.specs.declared.keeper.Keeper.TheVariants.{Master, Drive, Channel, Nobody}
+use Rattle.block.specs.Named as idns
 use Rattle.block.specs.Attributes.{length_code, is_command, type_code, code_number, type_number, attribute_kept}
 use Rattle.block.specs.Blocks.{Block}
 use Rattle.block.specs.Lists.{place_of}
@@ -13,7 +14,6 @@ use Rattle.making.specs.declared.table.Form.{Form}
 use Rattle.making.specs.declared.table.Form.TheVariants.{Parameter, Command}
 use Rattle.making.specs.declared.table.Asked.{Asked}
 use Rattle.making.specs.declared.table.Asked.TheVariants.{Nothing, Zero, Idle, Room, RoomFor}
-use Rattle.making.specs.Demanded as idns
 use Rattle.making.specs.Rules.{status_fits, valid_fits}
 use Rattle.making.specs.Met.{bytes_of}
 use Rattle.making.specs.Table.{demand, timing, bits, idn_list, command}

@@ -2,9 +2,8 @@
 use Rattle.std.specs.Prelude.{ℕ, ◌%◌, Bool, cond, not, ◌&&◌, ◌||◌, List, [], ◌∷◌, is_some, Some, None, Option, ◌==◌, nat_le, nat_lt}
 use Rattle.block.specs.declared.idn.Idn.{Idn}
 use Rattle.block.specs.declared.keeper.Keeper.TheVariants.{Master}
-use Rattle.block.specs.Numbers.{bit}
 use Rattle.block.specs.Attributes.{is_command, attribute_kept}
-use Rattle.block.specs.Blocks.{Block, is_kept}
+use Rattle.block.specs.Blocks.{Block, is_invalid, is_kept}
 use Rattle.block.specs.Values.{value_fault}
 use Rattle.making.specs.Met.{is_kept_by, is_idle, first_unmet}
 use Rattle.making.specs.Table.{demanded}
@@ -30,10 +29,6 @@ first_failing test (b ∷ bs) = cond (test b) (first_failing test bs) (Some (idn
 abbrev pub attribute_fits : Block → Bool
 attribute_fits b = attribute_kept b.attribute
 
--- status bit 8: the data are invalid
-abbrev pub is_invalid : ℕ → Bool
-is_invalid status = bit 0x100 status
-
 -- a parameter's status has bit 8 only, a command's bits 8 and 3 to 0 only
 abbrev pub status_fits : Bool → ℕ → Bool
 status_fits command status =
@@ -41,7 +36,7 @@ status_fits command status =
 
 -- what nobody can make valid is valid
 abbrev pub valid_fits : Block → Bool
-valid_fits b = is_kept b.keeper || not (is_invalid b.status)
+valid_fits b = is_kept b.keeper || not (is_invalid b)
 
 -- the data pass the one check of a value, also where they are invalid
 abbrev pub value_fits : List Block → Block → Bool

@@ -9,7 +9,7 @@ use Rattle.making.specs.declared.table.Form.{Form}
 use Rattle.making.specs.declared.table.Form.TheVariants.{Parameter, Command}
 use Rattle.making.specs.declared.table.Asked.{Asked}
 use Rattle.making.specs.declared.table.Asked.TheVariants.{Nothing, Zero, Idle, Room, RoomFor}
-use Rattle.making.specs.Demanded.{t_ncyc, t_scyc, t1min, t5, t1, t4, record_position, mdt_length, class_1_diagnostic, interface_status, phase_4_blocks, invalid_for_phase_3, invalid_for_phase_4, diagnostic_text, phase_3_check, phase_4_check}
+use Rattle.block.specs.Named.{t_ncyc, t_scyc, t1min, t5, t1, t4, record_position, mdt_length, class_1_diagnostic, interface_status, phase_4_blocks, invalid_for_phase_3, invalid_for_phase_4, diagnostic_text, phase_3_check, phase_4_check}
 
 -- one line of the table
 abbrev pub demand : ℕ → Keeper → Form → Asked → Demand

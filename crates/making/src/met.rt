@@ -1,14 +1,14 @@
 // Whether a store has the demanded blocks.
 ghost use Rattle.std.specs.Prelude.{◌≡◌};
-ghost use Rattle.std.specs.Option.{option_map};
 ghost use Rattle.block.specs.Blocks.{seen};
-ghost use Rattle.making.specs.Met.{block_of, bytes_of, is_zero, is_idle, is_kept_by, form_fits, asked_fits, demand_met, first_unmet};
+ghost use Rattle.making.specs.Met.{bytes_of, is_zero, is_idle, is_kept_by, form_fits, asked_fits, demand_met, first_unmet};
 
 use crate::table::{Asked, Demand, Form};
 use block::attribute::Attribute;
 use block::idn::Idn;
 use block::keeper::Keeper;
 use block::view::View;
+use store::scan::block_of;
 use store::store::Store;
 
 // Data 0, as two bytes.
@@ -32,21 +32,11 @@ pub fn is_kept_by(keeper: Keeper, view: View) -> bool
     view.keeper == keeper
 }
 
-// The first block of an IDN.
-fn block_of<S: Store>(store: &S, idn: Idn) -> Option<View<'_>>
-    ensures { option_map seen result ≡ block_of (S.Store.blocks store.now) idn.0 }
-{
-    store.block(store.find(idn)?)
-}
-
 // How many bytes the data of an IDN have; none where there is no such block.
 fn bytes_of<S: Store>(store: &S, idn: Idn) -> usize
     ensures { result ≡ bytes_of (S.Store.blocks store.now) idn.0 }
 {
-    match block_of(store, idn) {
-        Some(view) => view.content.len(),
-        None => 0,
-    }
+    block_of(store, idn).map_or(0, |view| view.content.len())
 }
 
 // An attribute of the demanded form.
@@ -80,22 +70,19 @@ fn asked_fits<S: Store>(store: &S, asked: Asked, view: View) -> bool
 fn demand_met<S: Store>(store: &S, demand: Demand) -> bool
     ensures { result ≡ demand_met (S.Store.blocks store.now) demand }
 {
-    let Some(view) = block_of(store, demand.idn) else {
-        return false;
-    };
-    is_kept_by(demand.keeper, view)
-        && form_fits(demand.form, view.attribute)
-        && asked_fits(store, demand.asked, view)
+    block_of(store, demand.idn).is_some_and(|view| {
+        is_kept_by(demand.keeper, view)
+            && form_fits(demand.form, view.attribute)
+            && asked_fits(store, demand.asked, view)
+    })
 }
 
 // The first demand that is not met.
 pub fn first_unmet<S: Store>(store: &S, demands: &[Demand]) -> Option<Idn>
     ensures { result ≡ first_unmet (S.Store.blocks store.now) demands.now }
 {
-    for demand in demands {
-        if !demand_met(store, *demand) {
-            return Some(demand.idn);
-        }
-    }
-    None
+    demands
+        .iter()
+        .find(|demand| !demand_met(store, **demand))
+        .map(|demand| demand.idn)
 }

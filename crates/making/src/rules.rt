@@ -10,8 +10,9 @@ use block::attribute::Attribute;
 use block::idn::Idn;
 use block::keeper::Keeper;
 use block::view::View;
+use store::scan::first_where;
 use store::store::Store;
-use store::value::value_fault;
+use store::value::check_value;
 
 // The addresses that a drive may have.
 pub fn address_fits(address: u8) -> bool
@@ -24,15 +25,13 @@ pub fn address_fits(address: u8) -> bool
 pub fn first_unordered<S: Store>(store: &S) -> Option<Idn>
     ensures { result ≡ first_unordered 0 (S.Store.blocks store.now) }
 {
-    let mut before = 0;
+    let mut before = Idn(0);
     for place in 0..store.count() {
-        let Some(view) = store.block(place) else {
-            return None;
-        };
-        if view.idn.0 <= before {
+        let view = store.block(place)?;
+        if view.idn <= before {
             return Some(view.idn);
         }
-        before = view.idn.0;
+        before = view.idn;
     }
     None
 }
@@ -48,15 +47,7 @@ fn attribute_fits(view: View) -> bool
 pub fn first_bad_attribute<S: Store>(store: &S) -> Option<Idn>
     ensures { result ≡ first_failing attribute_fits (S.Store.blocks store.now) }
 {
-    for place in 0..store.count() {
-        let Some(view) = store.block(place) else {
-            return None;
-        };
-        if !attribute_fits(view) {
-            return Some(view.idn);
-        }
-    }
-    None
+    first_where(store, |view| !attribute_fits(view)).map(|view| view.idn)
 }
 
 // A parameter's status has bit 8 only, a command's bits 8 and 3 to 0 only.
@@ -74,25 +65,16 @@ fn status_fits(attribute: Attribute, status: u16) -> bool
 fn content_fits<S: Store>(store: &S, view: View) -> bool
     ensures { result ≡ content_fits (S.Store.blocks store.now) (seen view.entry) }
 {
-    let invalid = view.status / 0x100 % 2 == 1;
     status_fits(view.attribute, view.status)
-        && (view.keeper.may_change() || !invalid)
-        && value_fault(store, view.attribute, view.limits, view.content).is_none()
+        && (view.keeper.may_change() || !view.is_invalid())
+        && check_value(store, view.attribute, view.limits, view.content).is_ok()
 }
 
 // The first block whose content or status is outside its form.
 pub fn first_bad_content<S: Store>(store: &S) -> Option<Idn>
     ensures { result ≡ first_failing (content_fits (S.Store.blocks store.now)) (S.Store.blocks store.now) }
 {
-    for place in 0..store.count() {
-        let Some(view) = store.block(place) else {
-            return None;
-        };
-        if !content_fits(store, view) {
-            return Some(view.idn);
-        }
-    }
-    None
+    first_where(store, |view| !content_fits(store, view)).map(|view| view.idn)
 }
 
 // A command is kept by the master and has not been started.
@@ -106,15 +88,7 @@ fn command_fits(view: View) -> bool
 fn first_bad_command<S: Store>(store: &S) -> Option<Idn>
     ensures { result ≡ first_failing command_fits (S.Store.blocks store.now) }
 {
-    for place in 0..store.count() {
-        let Some(view) = store.block(place) else {
-            return None;
-        };
-        if !command_fits(view) {
-            return Some(view.idn);
-        }
-    }
-    None
+    first_where(store, |view| !command_fits(view)).map(|view| view.idn)
 }
 
 // The lower of two IDNs that may be there.
@@ -122,9 +96,8 @@ fn lower_of(one: Option<Idn>, other: Option<Idn>) -> Option<Idn>
     ensures { result ≡ lower_of one other }
 {
     match (one, other) {
-        (Some(i), Some(j)) if j.0 < i.0 => Some(j),
-        (Some(i), _) => Some(i),
-        (None, j) => j,
+        (Some(i), Some(j)) => Some(i.min(j)),
+        (i, j) => i.or(j),
     }
 }
 

@@ -1,11 +1,11 @@
 // The demanded blocks as a table.
-use crate::idns::{
+use block::attribute::{DataType, LengthCode};
+use block::idn::Idn;
+use block::idns::{
     CLASS_1_DIAGNOSTIC, DIAGNOSTIC_TEXT, INTERFACE_STATUS, INVALID_FOR_PHASE_3,
     INVALID_FOR_PHASE_4, MDT_LENGTH, PHASE_3_CHECK, PHASE_4_BLOCKS, PHASE_4_CHECK, RECORD_POSITION,
     T_NCYC, T_SCYC, T1, T1_MIN, T4, T5,
 };
-use block::attribute::{DataType, LengthCode};
-use block::idn::Idn;
 use block::keeper::Keeper;
 
 // What the attribute of a demanded block says.

@@ -1,18 +1,13 @@
-use Rattle.std.proofs.Common.{arith}
-use Rattle.making.proofs.Scans.{unmet_here, unmet_next, unmet_none}
+use Rattle.std.proofs.Common.{not, rules, tests}
+use Rattle.std.proofs.lemmas.Iterator.{YieldsList-from_slice}
+use Rattle.std.proofs.lemmas.Iterator.Search.{find_from_yields_List}
+use Rattle.making.specs.Met.{demand_met}
+use Rattle.making.proofs.Scans.{unmet_found}
 use Rattle.making.proofs.met.first_unmet.Goals as goal
-
-pub returns-then-not-demand_met : goal.returns-then-not-demand_met
-returns-then-not-demand_met g c =
-    let blocks = g.S.Store.blocks c.args.store.now in
-    unmet_here blocks c.args.demands.now c.loop-demand.demand-index c.loop-demand.invariant _ (omega arith) c.if-not-demand_met.ensures
-
-pub loop-demand-preserved : goal.loop-demand-preserved
-loop-demand-preserved g c =
-    let blocks = g.S.Store.blocks c.args.store.now in
-    unmet_next blocks c.args.demands.now c.loop-demand.demand-index c.loop-demand.invariant _ (omega arith) c.if-not-demand_met.ensures
 
 pub returns : goal.returns
 returns g c =
     let blocks = g.S.Store.blocks c.args.store.now in
-    unmet_none blocks c.args.demands.now c.loop-demand.demand-index c.loop-demand.invariant (omega arith)
+    let demands = c.args.demands.now in
+    unmet_found blocks demands c.find.result c.map.result
+    (find_from_yields_List (λ d. not (demand_met blocks d)) _ _ c.find.result c.find.ensures.ran (YieldsList-from_slice demands c.iter.ensures.rest) (λ x b q k. search (rules, tests))) (search rules)

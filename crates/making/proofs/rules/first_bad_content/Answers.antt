@@ -1,25 +1,10 @@
-use Rattle.std.proofs.Common.{arith}
-use Rattle.block.specs.Blocks.{seen}
+use Rattle.std.proofs.Common.{not, rules}
 use Rattle.making.specs.Rules.{content_fits}
-use Rattle.making.proofs.Scans.{nth_within, failing_here, failing_next, failing_none}
+use Rattle.making.proofs.Scans.{failing_found}
 use Rattle.making.proofs.rules.first_bad_content.Goals as goal
-
-pub returns-in_default : goal.returns-in_default
-returns-in_default g c =
-    let blocks = g.S.Store.blocks c.args.store.now in
-    absurd (nth_within blocks c.loop-place.place c.in_default.ensures (omega arith))
-
-pub returns-then-not-content_fits : goal.returns-then-not-content_fits
-returns-then-not-content_fits g c =
-    let blocks = g.S.Store.blocks c.args.store.now in
-    failing_here (content_fits blocks) blocks c.loop-place.place c.loop-place.invariant (seen c.in-Some.view) c.in-Some.ensures c.if-not-content_fits.ensures
-
-pub loop-place-preserved : goal.loop-place-preserved
-loop-place-preserved g c =
-    let blocks = g.S.Store.blocks c.args.store.now in
-    failing_next (content_fits blocks) blocks c.loop-place.place c.loop-place.invariant (seen c.in-Some.view) c.in-Some.ensures c.if-not-content_fits.ensures
 
 pub returns : goal.returns
 returns g c =
     let blocks = g.S.Store.blocks c.args.store.now in
-    failing_none (content_fits blocks) blocks c.loop-place.place c.loop-place.invariant (omega arith)
+    failing_found (content_fits blocks) blocks c.first_where.result c.map.result
+    (c.first_where.ensures (λ b. not (content_fits blocks b)) (λ v r told. search rules)) (search rules)
