@@ -2,24 +2,17 @@
 use Rattle.std.proofs.Common.{◌≡◌, ℕ, zero, suc, ◌+◌, ◌<◌, ◌≤◌, true, false, cond, eqb, List, [], ◌∷◌, ◌++◌, length, drop, Some, None, Option, sym, refl, ap, ◌∙◌, subst, suc-add, zero-add, arith}
 use Rattle.std.specs.List.{slice_get}
 use Rattle.std.specs.Option.{option_map}
+use Rattle.std.proofs.lemmas.Option.{none-some, slice_get_within, get_or_from_slice_get}
+use Rattle.std.proofs.lemmas.List.{drop_more}
 use Rattle.std.proofs.lemmas.Bool.{and_parts, and_from}
 use Rattle.block.specs.Blocks.{Block, block_kept}
 use Rattle.block.specs.Lists.{place_of, all_kept, changed}
-
-none≢some : {b : Block} → None ≡ Some b → ⊥
-none≢some e = let z : ◌≡◌ {A = ℕ} 0 1 = cc in omega arith
 
 -- a change keeps the count
 pub length-changed : (bs : List Block) (place : ℕ) (f : Block → Block) → length (changed bs place f) ≡ length bs
 length-changed [] place f = refl
 length-changed (b ∷ bs) zero f = refl
 length-changed (b ∷ bs) (suc place) f = ap suc (length-changed bs place f)
-
--- a change past the end is none
-pub changed_past : (bs : List Block) (place : ℕ) (f : Block → Block) → length bs ≤ place → changed bs place f ≡ bs
-changed_past [] place f h = refl
-changed_past (b ∷ bs) zero f h = absurd (omega arith)
-changed_past (b ∷ bs) (suc place) f h = ap (λ l. b ∷ l) (changed_past bs place f (omega arith))
 
 -- a change within the first list
 pub changed_left : (bs cs : List Block) (place : ℕ) (f : Block → Block) → place < length bs
@@ -74,18 +67,16 @@ place-append (b ∷ bs) cs idn =
 
 -- the block at a place heads what is left from there
 pub nth_drop : (bs : List Block) (i : ℕ) (b : Block) → slice_get bs i ≡ Some b → drop i bs ≡ b ∷ drop (i + 1) bs
-nth_drop [] i b e = absurd (none≢some e)
-nth_drop (x ∷ bs) zero b e = cc
-nth_drop (x ∷ bs) (suc i) b e = nth_drop bs i b e ∙ rw suc-add
+nth_drop bs i b e = drop_more bs i b (slice_get_within bs i b e) ∙ ap (λ x. x ∷ drop (i + 1) bs) (get_or_from_slice_get bs i b b e)
 
 -- a place without a block lies past the end
 pub nth_none : (bs : List Block) (i : ℕ) → slice_get bs i ≡ None → length bs ≤ i
 nth_none [] i e = omega arith
-nth_none (x ∷ bs) zero e = absurd (none≢some (sym e))
+nth_none (x ∷ bs) zero e = absurd (none-some _ (sym e))
 nth_none (x ∷ bs) (suc i) e = let rest = nth_none bs i e in omega arith
 
 -- every block keeps the block rules
 pub nth_kept : (bs : List Block) (i : ℕ) (b : Block) → all_kept bs ≡ true → slice_get bs i ≡ Some b → block_kept b ≡ true
-nth_kept [] i b kept e = absurd (none≢some e)
+nth_kept [] i b kept e = absurd (none-some _ e)
 nth_kept (x ∷ bs) zero b kept e = let same : x ≡ b = cc in subst (λ y. block_kept y ≡ true) same (and_parts (block_kept x) (all_kept bs) kept).0
 nth_kept (x ∷ bs) (suc i) b kept e = nth_kept bs i b (and_parts (block_kept x) (all_kept bs) kept).1 e

@@ -1,5 +1,5 @@
 -- An identification number (IDN): its parts, its text, and what a text says. Assumes nothing.
-use Rattle.std.specs.Prelude.{ℕ, ◌+◌, ◌-◌, ◌*◌, ◌/◌, ◌%◌, Bool, cond, ◌&&◌, List, [], ◌∷◌, length, Ok, Err, Result, ◌==◌, nat_le, slice_index}
+use Rattle.std.specs.Prelude.{ℕ, ◌+◌, ◌-◌, ◌*◌, ◌/◌, ◌%◌, Bool, cond, ◌&&◌, List, codes, [], ◌∷◌, length, Ok, Err, Result, ◌==◌, nat_le, slice_index}
 use Rattle.block.specs.declared.idn.Idn.{Idn}
 use Rattle.block.specs.declared.idn.IdnFault.{IdnFault}
 use Rattle.block.specs.declared.idn.IdnFault.TheVariants.{Form, Set, Number}
@@ -68,3 +68,9 @@ idn_read t =
     (Err Number))
     (Err Set))
     (Err Form)
+
+-- what a fault says of the text
+abbrev pub fault_text : IdnFault → List ℕ
+fault_text Form = codes "no IDN of the form S-0-0127"
+fault_text Set = codes "the set of the IDN is above 7"
+fault_text Number = codes "the number of the IDN is above 4095"

@@ -1,5 +1,6 @@
 // The attribute word of a data block.
 ghost use Rattle.std.specs.Prelude.{◌≡◌, false, MatchOption};
+ghost use Rattle.std.specs.Result.{MatchResult};
 ghost use Rattle.block.specs.Attributes.{factor, length_code, is_command, type_code, decimals, is_protected, code_number, known_code, is_list, item_size, type_number, known_type, attribute_kept};
 ghost use Rattle.block.specs.Phases.{phase_number};
 
@@ -11,23 +12,31 @@ pub struct Attribute(pub u32);
 // How long the data are: fixed, or a list of items of one size.
 #[derive(Clone, Copy, PartialEq, Eq, Debug)]
 pub enum LengthCode {
-    TwoBytes,
-    FourBytes,
-    ByteList,
-    WordList,
-    LongList,
+    TwoBytes = 1,
+    FourBytes = 2,
+    ByteList = 4,
+    WordList = 5,
+    LongList = 6,
 }
+
+// A number that no length code has.
+#[derive(Clone, Copy, PartialEq, Eq, Debug)]
+pub struct NoLengthCode;
 
 // How the data are to be read.
 #[derive(Clone, Copy, PartialEq, Eq, Debug)]
 pub enum DataType {
-    Binary,
-    Unsigned,
-    Signed,
-    Hexadecimal,
-    Text,
-    IdnType,
+    Binary = 0,
+    Unsigned = 1,
+    Signed = 2,
+    Hexadecimal = 3,
+    Text = 4,
+    IdnType = 5,
 }
+
+// A number that no type has.
+#[derive(Clone, Copy, PartialEq, Eq, Debug)]
+pub struct NoDataType;
 
 impl LengthCode {
     // The bytes of one item of a list, or of the whole fixed data.
@@ -44,9 +53,44 @@ impl LengthCode {
     pub fn is_list(self) -> bool
         ensures { result ≡ is_list (code_number self) }
     {
-        match self {
-            LengthCode::TwoBytes | LengthCode::FourBytes => false,
-            LengthCode::ByteList | LengthCode::WordList | LengthCode::LongList => true,
+        matches!(
+            self,
+            LengthCode::ByteList | LengthCode::WordList | LengthCode::LongList
+        )
+    }
+}
+
+impl TryFrom<u32> for LengthCode {
+    type Error = NoLengthCode;
+
+    ghost try_from_gives = { λ n r. MatchResult r (λ code. code_number code ≡ n) (λ _. known_code n ≡ false) };
+
+    fn try_from(number: u32) -> Result<LengthCode, NoLengthCode> {
+        match number {
+            1 => Ok(LengthCode::TwoBytes),
+            2 => Ok(LengthCode::FourBytes),
+            4 => Ok(LengthCode::ByteList),
+            5 => Ok(LengthCode::WordList),
+            6 => Ok(LengthCode::LongList),
+            _ => Err(NoLengthCode),
+        }
+    }
+}
+
+impl TryFrom<u32> for DataType {
+    type Error = NoDataType;
+
+    ghost try_from_gives = { λ n r. MatchResult r (λ kind. type_number kind ≡ n) (λ _. known_type n ≡ false) };
+
+    fn try_from(number: u32) -> Result<DataType, NoDataType> {
+        match number {
+            0 => Ok(DataType::Binary),
+            1 => Ok(DataType::Unsigned),
+            2 => Ok(DataType::Signed),
+            3 => Ok(DataType::Hexadecimal),
+            4 => Ok(DataType::Text),
+            5 => Ok(DataType::IdnType),
+            _ => Err(NoDataType),
         }
     }
 }
@@ -61,28 +105,18 @@ impl Attribute {
     pub fn length_code(self) -> Option<LengthCode>
         ensures { MatchOption result (known_code (length_code self.0) ≡ false) (λ c. code_number c ≡ length_code self.0) }
     {
-        match self.0 / 0x1_0000 % 8 {
-            1 => Some(LengthCode::TwoBytes),
-            2 => Some(LengthCode::FourBytes),
-            4 => Some(LengthCode::ByteList),
-            5 => Some(LengthCode::WordList),
-            6 => Some(LengthCode::LongList),
-            _ => None,
-        }
+        LengthCode::try_from(self.0 / 0x1_0000 % 8).ok()
     }
 
     // The bytes of one item of a list, or of the whole fixed data; an unknown code counts as four.
     pub fn item(self) -> usize
         ensures { result ≡ item_size (length_code self.0) }
     {
-        match self.0 / 0x1_0000 % 8 {
-            4 => 1,
-            1 | 5 => 2,
-            _ => 4,
-        }
+        self.length_code().map_or(4, LengthCode::item)
     }
 
     // Whether the length code is one of lists.
+    // stays: the bare number, since the unknown code 7 counts as a list, and no LengthCode stands for it.
     pub fn is_list(self) -> bool
         ensures { result ≡ is_list (length_code self.0) }
     {
@@ -98,15 +132,7 @@ impl Attribute {
     pub fn data_type(self) -> Option<DataType>
         ensures { MatchOption result (known_type (type_code self.0) ≡ false) (λ t. type_number t ≡ type_code self.0) }
     {
-        match self.0 / 0x10_0000 % 8 {
-            0 => Some(DataType::Binary),
-            1 => Some(DataType::Unsigned),
-            2 => Some(DataType::Signed),
-            3 => Some(DataType::Hexadecimal),
-            4 => Some(DataType::Text),
-            5 => Some(DataType::IdnType),
-            _ => None,
-        }
+        DataType::try_from(self.0 / 0x10_0000 % 8).ok()
     }
 
     pub fn decimals(self) -> u8

@@ -1,8 +1,10 @@
 // An identification number names one data block: standard or product, parameter set, number.
 ghost use Rattle.std.specs.Prelude.{◌≡◌, ◌+◌, ◌-◌, ◌*◌, true, false, ◌&&◌, Some, MatchOption};
-ghost use Rattle.block.specs.Idns.{is_product, set_of, number_of, idn_text, idn_read, is_digit};
+ghost use Rattle.block.specs.Idns.{is_product, set_of, number_of, idn_text, idn_read, fault_text, is_digit};
 
+use std::error::Error;
 use std::fmt;
+use std::str::FromStr;
 
 #[derive(Clone, Copy, PartialEq, Eq, PartialOrd, Ord, Debug)]
 pub struct Idn(pub u16);
@@ -60,6 +62,16 @@ impl Idn {
     }
 }
 
+impl FromStr for Idn {
+    type Err = IdnFault;
+
+    ghost from_str_gives = { λ text r. r ≡ idn_read text };
+
+    fn from_str(text: &str) -> Result<Idn, IdnFault> {
+        Idn::parse(text.as_bytes())
+    }
+}
+
 impl fmt::Display for Idn {
     ghost output = { λ i. Some (idn_text i.0) };
 
@@ -67,22 +79,29 @@ impl fmt::Display for Idn {
         let letter = if self.is_product() { 'P' } else { 'S' };
         let set = self.set();
         let number = self.number();
-        let thousands = number / 1000;
-        let hundreds = number / 100 % 10;
-        let tens = number / 10 % 10;
-        let ones = number % 10;
-        write!(f, "{letter}-{set}-{thousands}{hundreds}{tens}{ones}")
+        write!(f, "{letter}-{set}-{number:04}")
     }
 }
+
+impl fmt::Display for IdnFault {
+    ghost output = { λ fault. Some (fault_text fault) };
+
+    fn fmt<W: fmt::Write>(&self, f: &mut fmt::Formatter<W>) -> fmt::Result {
+        f.write_str(match self {
+            IdnFault::Form => "no IDN of the form S-0-0127",
+            IdnFault::Set => "the set of the IDN is above 7",
+            IdnFault::Number => "the number of the IDN is above 4095",
+        })
+    }
+}
+
+impl Error for IdnFault {}
 
 // The value of a decimal digit.
 fn digit_value(c: u8) -> Option<u16>
     ensures { MatchOption result (is_digit c ≡ false) (λ d. (is_digit c ≡ true) × (d + 48 ≡ c)) }
 {
-    match c {
-        b'0'..=b'9' => Some(u16::from(c - b'0')),
-        _ => None,
-    }
+    char::from(c).to_digit(10).map(|digit| digit as u16)
 }
 
 // The value of four decimal digits.

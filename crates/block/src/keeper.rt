@@ -15,9 +15,6 @@ impl Keeper {
     pub fn may_change(self) -> bool
         ensures { result ≡ is_kept self }
     {
-        match self {
-            Keeper::Master | Keeper::Drive | Keeper::Channel => true,
-            Keeper::Nobody => false,
-        }
+        self != Keeper::Nobody
     }
 }

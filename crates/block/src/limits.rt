@@ -43,15 +43,11 @@ pub fn is_below(attribute: Attribute, x: u32, y: u32) -> bool
 pub fn may_have_limits(attribute: Attribute) -> bool
     ensures { result ≡ may_have_limits attribute.0 }
 {
-    let fixed = match attribute.length_code() {
-        Some(code) => !code.is_list(),
-        None => false,
-    };
-    fixed
-        && match attribute.data_type() {
-            Some(DataType::Unsigned | DataType::Signed | DataType::Hexadecimal) => true,
-            _ => false,
-        }
+    attribute.length_code().is_some_and(|code| !code.is_list())
+        && matches!(
+            attribute.data_type(),
+            Some(DataType::Unsigned | DataType::Signed | DataType::Hexadecimal)
+        )
 }
 
 // The limits may be there, fit the block's length, and the lower is not above the upper.

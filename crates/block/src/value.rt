@@ -8,9 +8,9 @@ use crate::limits::{Limits, is_below};
 
 #[derive(Clone, Copy, PartialEq, Eq, Debug)]
 pub enum ValueFault {
-    TooLow,
-    TooHigh,
-    UnknownIdn,
+    TooLow = 6,
+    TooHigh = 7,
+    UnknownIdn = 8,
 }
 
 impl ValueFault {
@@ -18,11 +18,7 @@ impl ValueFault {
     pub fn cause(self) -> u16
         ensures { result ≡ cause_of self }
     {
-        match self {
-            ValueFault::TooLow => 6,
-            ValueFault::TooHigh => 7,
-            ValueFault::UnknownIdn => 8,
-        }
+        self as u16
     }
 }
 
@@ -30,16 +26,14 @@ impl ValueFault {
 pub fn byte_at(bytes: &[u8], place: usize) -> u8
     ensures { result ≡ slice_index bytes.now place }
 {
-    if place < bytes.len() { bytes[place] } else { 0 }
+    bytes.get(place).copied().unwrap_or(0)
 }
 
 // The bit pattern of fixed data.
 pub fn pattern_of(bytes: &[u8]) -> u32
     ensures { result ≡ pattern bytes.now }
 {
-    let low = u32::from(byte_at(bytes, 0)) + 0x100 * u32::from(byte_at(bytes, 1));
-    let high = u32::from(byte_at(bytes, 2)) + 0x100 * u32::from(byte_at(bytes, 3));
-    low + 0x1_0000 * high
+    u32::from_le_bytes([0, 1, 2, 3].map(|place| byte_at(bytes, place)))
 }
 
 // The word of two bytes from a place on, low byte first.
@@ -54,6 +48,7 @@ pub fn word_at(bytes: &[u8], place: usize) -> u16
 }
 
 // The first fault of a pattern against the limits, if any: below, then above.
+// stays: attribute and limits as two parameters, for the reason that stands at `form_kept`.
 pub fn check_range(
     attribute: Attribute,
     limits: Option<Limits>,

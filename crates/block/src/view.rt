@@ -61,6 +61,8 @@ pub fn maximum_fits(attribute: Attribute, most: u16) -> bool
 }
 
 // Whether the parts of a block that never change keep the block rules.
+// stays: five parameters, since rows, views and the heads of reports hold these parts beside others,
+// so a struct of the five would be built for each call, and read once.
 pub fn form_kept(
     attribute: Attribute,
     name: &[u8],

@@ -74,6 +74,7 @@ pub enum Refusal {
 }
 
 impl Refusal {
+    // stays: a match, since an enum whose variants carry values has no numbers of its own.
     pub fn number(self) -> u8
         ensures { result ≡ refusal_number self }
     {

@@ -9,5 +9,4 @@ pub returns-clause-writes : goal.returns-clause-writes
 returns-clause-writes g c plain ok =
     let small : c.if-is_product.letter < 128 = search rules in
     let is : c.if-is_product.letter ≡ letter_of (is_product c.args.self.now.0) = search rules in
-    has_written_of_eq _ _ _ _ _ (idn_written c.if-is_product.letter c.args.self.now.0 small is)
-    (rw (← c.set-set.ensures, ← c.number-number.ensures) (c.write.ensures.writes plain ok))
+    has_written_of_eq _ _ _ _ _ (idn_written c.if-is_product.letter c.args.self.now.0 _ _ _ small is c.set-set.ensures c.number-number.ensures c.laid_out.ensures) (c.write.ensures.writes plain ok)
