@@ -1,8 +1,8 @@
 -- The bench's drive, and its exchanges by the rules of the drive. Assumes nothing.
-use Rattle.std.specs.Prelude.{ℕ, ◌-◌, List, [], ◌∷◌, ◌++◌, replicate, Some, None, Option}
+use Rattle.std.specs.Prelude.{ℕ, ◌+◌, ◌-◌, ◌≤◌, List, [], ◌∷◌, ◌++◌, replicate, Some, None, Option, Ok, Err, Result}
 use Rattle.std.proofs.Math.Seq.{paste}
 use Rattle.refusal.specs.declared.Refusal.{Refusal}
-use Rattle.refusal.specs.Refusals.{refusal_number}
+use Rattle.refusal.specs.declared.Refusal.TheVariants.{PhaseZero}
 use Rattle.block.specs.declared.keeper.Keeper.{Keeper}
 use Rattle.block.specs.declared.keeper.Keeper.TheVariants.{Master, Drive, Channel, Nobody}
 use Rattle.block.specs.declared.limits.Limits.{Limits}
@@ -13,8 +13,7 @@ use Rattle.drive.specs.Telegrams.{mst_refusal, mst_after, mdt_size, mdt_address,
 use Rattle.drive.specs.Answers.{at_refusal, status_word}
 use Rattle.bench.specs.declared.line.Line.{Line}
 use Rattle.bench.specs.declared.line.Line.TheVariants.{Info, Record}
-use Rattle.bench.specs.declared.line.Shown.{Shown}
-use Rattle.bench.specs.declared.line.Shown.TheVariants.{Refused, Answered}
+use Rattle.bench.specs.declared.line.Answer.{Answer}
 
 -- a block without name and unit
 abbrev pub plain_block : ℕ → Keeper → ℕ → ℕ → Option Limits → ℕ → List ℕ → Block
@@ -51,31 +50,50 @@ bench_blocks =
     ∷ word_block 128 Master 0x0009_0001
     ∷ []
 
--- the telegram of a line: an MST, or an MDT with the record in its place and the rest of its data 0
+-- an MDT with the record in its place and the rest of its data 0
 abbrev pub mdt_of : Machine → ℕ → ℕ → List ℕ
 mdt_of m control info =
     paste (mdt_address m ∷ replicate (mdt_size m - 1) 0) (record_start m) (bytes_of control ++ bytes_of info) 4
 
--- what the next AT shows
-abbrev pub shown_at : Option Refusal → Machine → Shown
-shown_at (Some r) m = Refused (refusal_number r)
-shown_at None m = Answered (status_word m 0) m.service.link.info
+-- the telegram of a line: an MST or an MDT
+abbrev pub telegram_of : Machine → Line → List ℕ
+telegram_of m (Info info) = 255 ∷ info ∷ []
+telegram_of m (Record control info) = mdt_of m control info
 
-abbrev pub shown_after : Option Refusal → Machine → Shown
-shown_after (Some r) m = Refused (refusal_number r)
+-- the record of a line has its place in an MDT, as the timing rules demand before phase 3
+abbrev pub has_place : Machine → Type 0
+has_place m = record_start m + 4 ≤ mdt_size m
+
+abbrev pub answer : ℕ → ℕ → Answer
+answer status info = record { status = status; info = info }
+
+-- what the next AT shows
+abbrev pub shown_at : Option Refusal → Machine → Result Answer Refusal
+shown_at (Some r) m = Err r
+shown_at None m = Ok (answer (status_word m 0) m.service.link.info)
+
+abbrev pub shown_after : Option Refusal → Machine → Result Answer Refusal
+shown_after (Some r) m = Err r
 shown_after None m = shown_at (at_refusal m 5) m
+
+-- the drive after a telegram of a line's kind, and what is shown
+abbrev pub after_sent : Machine → Line → List ℕ → Machine
+after_sent m (Info info) t = mst_after m t
+after_sent m (Record control info) t = mdt_after m t
+
+abbrev pub shown_sent : Machine → Line → List ℕ → Result Answer Refusal
+shown_sent m (Info info) t = shown_after (mst_refusal t) (mst_after m t)
+shown_sent m (Record control info) t = shown_after (mdt_refusal m t) (mdt_after m t)
 
 -- the drive after a line, and what is shown
 abbrev pub after_line : Machine → Line → Machine
-after_line m (Info info) = mst_after m (255 ∷ info ∷ [])
-after_line m (Record control info) = mdt_after m (mdt_of m control info)
+after_line m l = after_sent m l (telegram_of m l)
 
-abbrev pub shown_of : Machine → Line → Shown
-shown_of m (Info info) = shown_after (mst_refusal (255 ∷ info ∷ [])) (after_line m (Info info))
-shown_of m (Record control info) = shown_after (mdt_refusal m (mdt_of m control info)) (after_line m (Record control info))
+abbrev pub shown_of : Machine → Line → Result Answer Refusal
+shown_of m l = shown_sent m l (telegram_of m l)
 
 -- a run of lines
-abbrev pub exchanges : Machine → List Line → List Shown
+abbrev pub exchanges : Machine → List Line → List (Result Answer Refusal)
 exchanges m [] = []
 exchanges m (l ∷ ls) = shown_of m l ∷ exchanges (after_line m l) ls
 
@@ -85,7 +103,7 @@ first_lines =
     Info 0 ∷ Info 1 ∷ Record 0x0001 0 ∷ Info 2 ∷ Record 0x000F 2 ∷ Record 0x0018 0 ∷ Record 0x001D 0 ∷ Record 0x003E 0x03E8
     ∷ Record 0x003F 0x003D ∷ Record 0x000F 2 ∷ []
 
-abbrev pub first_shown : List Shown
+abbrev pub first_shown : List (Result Answer Refusal)
 first_shown =
-    Refused 8 ∷ Answered 0 0 ∷ Answered 1 0 ∷ Answered 0 0 ∷ Answered 1 0 ∷ Answered 0 1 ∷ Answered 1 0x0011 ∷ Answered 0 0
-    ∷ Answered 5 0x7006 ∷ Answered 5 0x7006 ∷ []
+    Err PhaseZero ∷ Ok (answer 0 0) ∷ Ok (answer 1 0) ∷ Ok (answer 0 0) ∷ Ok (answer 1 0) ∷ Ok (answer 0 1) ∷ Ok (answer 1 0x0011)
+    ∷ Ok (answer 0 0) ∷ Ok (answer 5 0x7006) ∷ Ok (answer 5 0x7006) ∷ []

@@ -1,23 +1,30 @@
 // The lines of the bench.
-ghost use Rattle.std.specs.Prelude.{◌≡◌, ◌<◌, true, false, MatchOption};
-ghost use Rattle.bench.specs.Lines.{is_hex, hex_value, are_hex_2, value2, info_line, is_record_frame, record_line, line_read};
+ghost use Rattle.std.specs.Prelude.{◌≡◌, ◌+◌, ◌*◌, ◌<◌, true, false, ◌&&◌, MatchOption};
+ghost use Rattle.bench.specs.Lines.{is_hex, hex_value, info_line, record_line, line_read};
 ghost use Rattle.bench.specs.Exchanges.{bench_blocks, exchanges, first_lines, first_shown};
 ghost use Rattle.drive.specs.Machines.{made};
 
-use block::value::byte_at;
+use std::fmt;
 
 // An MST with its INFO, or the record of an MDT: control word and service info.
 #[derive(Clone, Copy, PartialEq, Eq, Debug)]
 pub enum Line {
     Info(u8),
-    Record(u16, u16),
+    Record { control: u16, info: u16 },
 }
 
-// The number of a refusal, or status word and info of the next AT.
+// What an AT tells beside the address.
 #[derive(Clone, Copy, PartialEq, Eq, Debug)]
-pub enum Shown {
-    Refused(u8),
-    Answered(u16, u16),
+pub struct Answer {
+    pub status: u16,
+    pub info: u16,
+}
+
+impl fmt::Display for Answer {
+    fn fmt<W: fmt::Write>(&self, f: &mut fmt::Formatter<W>) -> fmt::Result {
+        let Answer { status, info } = *self;
+        write!(f, "{status:04X} {info:04X}")
+    }
 }
 
 // The first lines of every bench run; by the rules they show just this.
@@ -28,72 +35,64 @@ pub fn first_lines() -> [Line; 10]
     [
         Line::Info(0),
         Line::Info(1),
-        Line::Record(0x0001, 0),
+        record(0x0001, 0),
         Line::Info(2),
-        Line::Record(0x000F, 2),
-        Line::Record(0x0018, 0),
-        Line::Record(0x001D, 0),
-        Line::Record(0x003E, 0x03E8),
-        Line::Record(0x003F, 0x003D),
-        Line::Record(0x000F, 2),
+        record(0x000F, 2),
+        record(0x0018, 0),
+        record(0x001D, 0),
+        record(0x003E, 0x03E8),
+        record(0x003F, 0x003D),
+        record(0x000F, 2),
     ]
 }
 
-// The value of a capital hexadecimal digit.
-fn hex(c: u8) -> Option<u16>
+fn record(control: u16, info: u16) -> Line
+    ensures { result ≡ Line.Record control info }
+{
+    Line::Record { control, info }
+}
+
+// The value of a capital hexadecimal digit; `to_digit` takes small letters too.
+fn hex(c: u8) -> Option<u8>
     ensures { MatchOption result (is_hex c ≡ false) (λ v. (is_hex c ≡ true) × (v ≡ hex_value c) × (v < 16)) }
 {
     match c {
-        b'0'..=b'9' => Some(u16::from(c - b'0')),
-        b'A'..=b'F' => Some(u16::from(c - b'A') + 10),
+        b'0'..=b'9' => Some(c - b'0'),
+        b'A'..=b'F' => Some(c - b'A' + 10),
         _ => None,
     }
 }
 
-// The value of two such digits from a place on.
-fn two_hex(text: &[u8], place: usize) -> Option<u16>
-    requires { place < 16 }
-    ensures { MatchOption result (are_hex_2 text.now place ≡ false) (λ v. (are_hex_2 text.now place ≡ true) × (v ≡ value2 text.now place) × (v < 256)) }
+// The value of two such digits.
+fn byte(high: u8, low: u8) -> Option<u8>
+    ensures { MatchOption result (is_hex high && is_hex low ≡ false) (λ v. (is_hex high && is_hex low ≡ true) × (v ≡ 16 * hex_value high + hex_value low)) }
 {
-    let high = hex(byte_at(text, place))?;
-    let low = hex(byte_at(text, place + 1))?;
-    Some(16 * high + low)
+    Some(16 * hex(high)? + hex(low)?)
 }
 
 fn info_line(text: &[u8]) -> Option<Line>
     ensures { result ≡ info_line text.now }
 {
-    if text.len() != 4 || text[0] != b'S' || text[1] != b' ' {
+    let [b'S', b' ', high, low] = text else {
         return None;
-    }
-    let info = two_hex(text, 2)?;
-    Some(Line::Info(info as u8))
-}
-
-// Whether a text has the letter, the spaces and the length of `D cccc iiii`.
-fn is_record_frame(text: &[u8]) -> bool
-    ensures { result ≡ is_record_frame text.now }
-{
-    text.len() == 11 && text[0] == b'D' && text[1] == b' ' && text[6] == b' '
+    };
+    Some(Line::Info(byte(*high, *low)?))
 }
 
 fn record_line(text: &[u8]) -> Option<Line>
     ensures { result ≡ record_line text.now }
 {
-    if !is_record_frame(text) {
+    let [b'D', b' ', a, b, c, d, b' ', e, f, g, h] = text else {
         return None;
-    }
-    let control = 256 * two_hex(text, 2)? + two_hex(text, 4)?;
-    let info = 256 * two_hex(text, 7)? + two_hex(text, 9)?;
-    Some(Line::Record(control, info))
+    };
+    let control = u16::from_be_bytes([byte(*a, *b)?, byte(*c, *d)?]);
+    let info = u16::from_be_bytes([byte(*e, *f)?, byte(*g, *h)?]);
+    Some(Line::Record { control, info })
 }
 
 // The line that a text is, if it has exactly its form.
 pub fn parse(text: &[u8]) -> Option<Line>
     ensures { result ≡ line_read text.now }
 {
-    match info_line(text) {
-        Some(line) => Some(line),
-        None => record_line(text),
-    }
+    info_line(text).or_else(|| record_line(text))
 }

@@ -4,12 +4,12 @@
 mod blocks;
 mod line;
 
-ghost use Rattle.std.specs.Prelude.{◌≡◌, None};
-ghost use Rattle.bench.specs.Exchanges.{shown_after};
+ghost use Rattle.std.specs.Prelude.{◌≡◌, None, IfOk};
+ghost use Rattle.bench.specs.Exchanges.{has_place, mdt_of, telegram_of, after_sent, shown_sent, shown_after};
 ghost use Rattle.drive.specs.Machines.{view};
 
 use drive::drive::Drive;
-use line::{Line, Shown};
+use line::{Answer, Line};
 use refusal::Refusal;
 use rows::plan::Plan;
 use std::alloc::{AllocError, Global};
@@ -19,78 +19,65 @@ use store::store::Store;
 use table::table::Table;
 
 // An MDT with the record in its place, and the rest of its data 0.
-fn telegram<S: Store>(
+fn mdt<S: Store>(
     heap: Global,
     drive: &Drive<S>,
     control: u16,
     info: u16,
-) -> Result<Vec<u8>, AllocError> {
-    let mut bytes = vec![in heap; 0u8; drive.mdt_size()]?;
+) -> Result<Vec<u8>, AllocError>
+    ensures { IfOk result (λ t. has_place (view S.Store.blocks drive.now) → t.items ≡ mdt_of (view S.Store.blocks drive.now) control info) }
+{
+    let mut bytes = vec![in heap; drive.mdt_address()]?;
+    bytes.resize(drive.mdt_size(), 0)?;
     let start = drive.record_start();
-    let record = [
-        (control % 256) as u8,
-        (control / 256) as u8,
-        (info % 256) as u8,
-        (info / 256) as u8,
-    ];
-    for (i, b) in record.iter().enumerate() {
-        if let Some(cell) = bytes.get_mut(start.saturating_add(i)) {
-            *cell = *b;
-        }
-    }
-    if let Some(cell) = bytes.get_mut(0) {
-        *cell = drive.mdt_address();
+    let [a, b] = control.to_le_bytes();
+    let [c, d] = info.to_le_bytes();
+    if start + 4 <= bytes.len() {
+        bytes[start..start + 4].copy_from_slice(&[a, b, c, d]);
     }
     Ok(bytes)
 }
 
-// Hands a line's telegram to the drive.
-fn send<S: Store>(
-    heap: Global,
-    drive: &mut Drive<S>,
-    line: Line,
-) -> Result<Result<(), Refusal>, AllocError> {
+// The telegram of a line.
+fn telegram<S: Store>(heap: Global, drive: &Drive<S>, line: Line) -> Result<Vec<u8>, AllocError>
+    ensures { IfOk result (λ t. has_place (view S.Store.blocks drive.now) → t.items ≡ telegram_of (view S.Store.blocks drive.now) line) }
+{
     match line {
-        Line::Info(info) => Ok(drive.mst(&[255, info])),
-        Line::Record(control, info) => {
-            let bytes = telegram(heap, drive, control, info)?;
-            match drive.mdt(bytes.as_slice()) {
-                Ok(_) => Ok(Ok(())),
-                Err(refusal) => Ok(Err(refusal)),
-            }
-        }
+        Line::Info(info) => Ok(vec![in heap; 255, info]?),
+        Line::Record { control, info } => mdt(heap, drive, control, info),
     }
 }
 
 // What the next AT shows.
-fn next_at<S: Store>(drive: &Drive<S>) -> Shown
+fn next_at<S: Store>(drive: &Drive<S>) -> Result<Answer, Refusal>
     ensures { result ≡ shown_after None (view S.Store.blocks drive.now) }
 {
     let mut at = [0u8; 5];
-    match drive.at(0, &mut at) {
-        Ok(()) => {
-            let [_, a, b, c, d] = at;
-            Shown::Answered(
-                u16::from(a) + 256 * u16::from(b),
-                u16::from(c) + 256 * u16::from(d),
-            )
+    drive.at(0, &mut at)?;
+    let [_, a, b, c, d] = at;
+    Ok(Answer {
+        status: u16::from_le_bytes([a, b]),
+        info: u16::from_le_bytes([c, d]),
+    })
+}
+
+// Hands a line's telegram to the drive, and asks for the next AT.
+fn exchange<S: Store>(drive: &mut Drive<S>, line: Line, telegram: &[u8]) -> Result<Answer, Refusal>
+    ensures shown { result ≡ shown_sent (view S.Store.blocks drive.old) line telegram.now }
+    ensures after { view S.Store.blocks drive.new ≡ after_sent (view S.Store.blocks drive.old) line telegram.now }
+{
+    match line {
+        Line::Info(_) => drive.mst(telegram)?,
+        Line::Record { .. } => {
+            drive.mdt(telegram)?;
         }
-        Err(refusal) => Shown::Refused(refusal.number()),
     }
+    next_at(drive)
 }
 
-fn exchange<S: Store>(heap: Global, drive: &mut Drive<S>, line: Line) -> Result<Shown, AllocError> {
-    match send(heap, drive, line)? {
-        Ok(()) => Ok(next_at(drive)),
-        Err(refusal) => Ok(Shown::Refused(refusal.number())),
-    }
-}
-
-fn print(rt: &HostRuntime, shown: Shown) -> io::Result<()> {
-    match shown {
-        Shown::Refused(number) => println!(rt; "R {number:02}"),
-        Shown::Answered(status, info) => println!(rt; "{status:04X} {info:04X}"),
-    }
+fn refused(rt: &HostRuntime, refusal: Refusal) -> io::Result<()> {
+    let number = refusal.number();
+    println!(rt; "R {number:02}")
 }
 
 // Answers every line of the input, whatever bytes it has.
@@ -98,9 +85,14 @@ fn serve<S: Store>(rt: &HostRuntime, drive: &mut Drive<S>) -> io::Result<()> {
     let heap = rt.alloc();
     for text in BufReader::new(heap, rt.stdin())?.split(heap, b'\n') {
         let text = text?;
-        match line::parse(text.as_slice()) {
-            Some(line) => print(rt, exchange(heap, drive, line)?)?,
-            None => rt.println("?")?,
+        let Some(line) = line::parse(text.as_slice()) else {
+            rt.println("?")?;
+            continue;
+        };
+        let telegram = telegram(heap, drive, line)?;
+        match exchange(drive, line, telegram.as_slice()) {
+            Ok(answer) => rt.println(answer)?,
+            Err(refusal) => refused(rt, refusal)?,
         }
     }
     Ok(())
@@ -110,10 +102,7 @@ fn serve<S: Store>(rt: &HostRuntime, drive: &mut Drive<S>) -> io::Result<()> {
 fn bench<S: Store + Drop>(rt: &HostRuntime, store: S) -> io::Result<()> {
     match Drive::make(1, store) {
         Ok(mut drive) => serve(rt, &mut drive),
-        Err((refusal, _)) => {
-            let number = refusal.number();
-            println!(rt; "R {number:02}")
-        }
+        Err((refusal, _)) => refused(rt, refusal),
     }
 }
 
