@@ -71,6 +71,6 @@ idn_read t =
 
 -- what a fault says of the text
 abbrev pub fault_text : IdnFault → List ℕ
-fault_text Form = codes "no IDN of the form S-0-0127"
-fault_text Set = codes "the set of the IDN is above 7"
-fault_text Number = codes "the number of the IDN is above 4095"
+fault_text Form = codes "not of the form S-0-0127"
+fault_text Set = codes "the set is above 7"
+fault_text Number = codes "the number is above 4095"

@@ -88,9 +88,9 @@ impl fmt::Display for IdnFault {
 
     fn fmt<W: fmt::Write>(&self, f: &mut fmt::Formatter<W>) -> fmt::Result {
         f.write_str(match self {
-            IdnFault::Form => "no IDN of the form S-0-0127",
-            IdnFault::Set => "the set of the IDN is above 7",
-            IdnFault::Number => "the number of the IDN is above 4095",
+            IdnFault::Form => "not of the form S-0-0127",
+            IdnFault::Set => "the set is above 7",
+            IdnFault::Number => "the number is above 4095",
         })
     }
 }

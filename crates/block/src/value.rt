@@ -67,10 +67,3 @@ pub fn check_range(
     }
     Ok(())
 }
-
-// The same fault, as an option.
-pub fn range_fault(attribute: Attribute, limits: Option<Limits>, pattern: u32) -> Option<ValueFault>
-    ensures { result ≡ range_fault attribute.0 limits pattern }
-{
-    check_range(attribute, limits, pattern).err()
-}
