@@ -1,11 +1,9 @@
 // The error codes of the service channel.
 ghost use Rattle.std.specs.Prelude.{◌≡◌};
 ghost use Rattle.block.specs.Values.{cause_of};
-ghost use Rattle.channel.specs.Codes.{digit_number, code_of};
-ghost use Rattle.channel.specs.Controls.{element_number};
+ghost use Rattle.channel.specs.Codes.{digit_number};
 
-use crate::control::Element;
-use crate::fault::Code;
+pub use crate::fault::Code;
 use block::value::ValueFault;
 
 // The last digit of a code: what is wrong.
@@ -48,11 +46,4 @@ pub fn value_digit(fault: ValueFault) -> Digit
     ensures { digit_number result ≡ cause_of fault }
 {
     Digit::from(fault)
-}
-
-// The code of a cause at an element.
-pub fn code(element: Element, digit: Digit) -> u16
-    ensures { result ≡ code_of (element_number element) digit }
-{
-    Code { element, digit }.number()
 }
