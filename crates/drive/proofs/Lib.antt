@@ -1,4 +1,3 @@
 mod Resets
-mod Raising
-mod Records
-mod Reporting
+mod Ending
+mod Checking

@@ -5,9 +5,8 @@ use Rattle.block.specs.declared.phase.Phase.{Phase}
 use Rattle.block.specs.declared.phase.Phase.TheVariants.{Zero}
 use Rattle.block.specs.Numbers.{pattern}
 use Rattle.block.specs.Blocks.{Block}
-use Rattle.service.specs.declared.link.Link.{Link}
-use Rattle.service.specs.States.{State, viewed}
-use Rattle.service.specs.Names.{block_of}
+use Rattle.block.specs.Lists.{block_of}
+use Rattle.service.specs.States.{State, Channel, viewed}
 use Rattle.drive.specs.declared.drive.Drive.{Drive}
 use Rattle.drive.specs.declared.drive.Misses.{Misses}
 
@@ -27,7 +26,7 @@ abbrev pub no_miss : Misses
 no_miss = record { mst = false; mdt = false }
 
 -- a closed and empty channel, with AHS 0
-abbrev pub empty_link : Link
+abbrev pub empty_link : Channel
 empty_link = record { ahs = false; place = None; transfer = None; error = false; info = 0 }
 
 -- a drive as it is made: phase 0, no mark, miss or order

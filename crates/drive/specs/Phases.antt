@@ -6,21 +6,17 @@ use Rattle.block.specs.Numbers.{bit}
 use Rattle.block.specs.Attributes.{is_command}
 use Rattle.block.specs.Blocks.{Block, is_kept, length_fits}
 use Rattle.block.specs.Lists.{place_of, with_content, with_status}
+use Rattle.block.specs.Named.{interface_status}
 use Rattle.block.specs.Phases.{phase_number}
-use Rattle.service.specs.declared.link.Link.{Link}
 use Rattle.service.specs.Changes.{accepted_at}
-use Rattle.service.specs.States.{State}
+use Rattle.service.specs.States.{State, Channel}
 use Rattle.service.specs.Words.{bytes_of}
 use Rattle.drive.specs.declared.drive.Misses.{Misses}
 use Rattle.drive.specs.declared.phases.Fault.{Fault}
 use Rattle.drive.specs.declared.phases.Fault.TheVariants.{MstMissed, MdtMissed, WrongInfo, JumpUp, StepDown, NoPass}
 use Rattle.drive.specs.Machines.{Machine, no_miss, empty_link, value_at}
 
--- S-0-0014, the interface status: bits 2 to 0 the phase, bits 3 to 8 the faults
-abbrev pub interface_status : ℕ
-interface_status = 14
-
--- its fault bits
+-- the fault bits of S-0-0014, the interface status: its bits 2 to 0 are the phase, and bits 3 to 8 the faults
 abbrev pub faults_in : List Block → ℕ
 faults_in bs = value_at bs interface_status / 8 % 64 * 8
 
@@ -63,7 +59,7 @@ blocks_entering Three bs = bs
 blocks_entering Four bs = bs
 
 -- entering 0, 1 or 2 closes and empties the channel; 3 and 4 keep it
-abbrev pub link_entering : Phase → Link → Link
+abbrev pub link_entering : Phase → Channel → Channel
 link_entering Zero link = empty_link
 link_entering One link = empty_link
 link_entering Two link = empty_link

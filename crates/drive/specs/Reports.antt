@@ -2,21 +2,23 @@
 use Rattle.std.specs.Prelude.{ℕ, ◌+◌, ◌/◌, ◌%◌, Bool, true, false, cond, not, ◌&&◌, List, [], ◌∷◌, length, Some, None, Option, Result, ◌==◌, nat_lt}
 use Rattle.std.specs.Int.Count.{count_trailing_zeros}
 use Rattle.std.specs.List.{slice_get}
+use Rattle.std.specs.Option.{option_map}
 use Rattle.refusal.specs.declared.Cause.{Cause}
-use Rattle.refusal.specs.declared.Cause.TheVariants.{TooShort, TooLong, TooLow, TooHigh, Broken}
+use Rattle.refusal.specs.declared.Cause.TheVariants.{TooShort, TooLong, Broken}
+use Rattle.refusal.specs.Refusals.{fault_cause}
 use Rattle.refusal.specs.declared.Refusal.{Refusal}
 use Rattle.refusal.specs.declared.Refusal.TheVariants.{Unknown, Keeper, Timing, Value}
 use Rattle.block.specs.declared.keeper.Keeper as keeper
 use Rattle.block.specs.declared.keeper.Keeper.TheVariants.{Master, Drive, Channel, Nobody}
-use Rattle.block.specs.declared.value.ValueFault as fault
 use Rattle.block.specs.declared.value.ValueFault.{ValueFault}
 use Rattle.block.specs.Attributes.{length_code, is_list, item_size}
 use Rattle.block.specs.Blocks.{Block}
 use Rattle.block.specs.Lists.{place_of}
+use Rattle.block.specs.Named as named
+use Rattle.block.specs.Named.{class_1_diagnostic, is_timing}
 use Rattle.block.specs.Numbers.{pattern}
 use Rattle.block.specs.Phases.{phase_number}
 use Rattle.block.specs.Values.{value_fault}
-use Rattle.channel.specs.Writes.{is_timing}
 use Rattle.service.specs.declared.link.Head.{Head}
 use Rattle.service.specs.Changes.{accepted, accepted_at}
 use Rattle.service.specs.States.{head_of}
@@ -39,10 +41,7 @@ length_cause a most n =
 
 -- the value does not pass its check
 abbrev pub value_cause : Option ValueFault → Option Cause
-value_cause None = None
-value_cause (Some fault.ValueFault.TooLow) = Some TooLow
-value_cause (Some fault.ValueFault.TooHigh) = Some TooHigh
-value_cause (Some fault.ValueFault.UnknownIdn) = Some Broken
+value_cause fault = option_map fault_cause fault
 
 -- the first cause against the data: length, then value
 abbrev pub first_cause : Option Cause → Option Cause → Option Cause
@@ -81,7 +80,7 @@ diagnostic_text row = cond (nat_lt row 16) (67 ∷ 49 ∷ 68 ∷ 32 ∷ (48 + ro
 -- S-0-0095 follows S-0-0011: the text of its lowest set bit
 abbrev pub diagnosed : List Block → ℕ → List ℕ → List Block
 diagnosed bs idn bytes =
-    cond (idn == 11) (accepted_at bs (place_of bs 95) (diagnostic_text (count_trailing_zeros 16 (pattern bytes % 0x1_0000)))) bs
+    cond (idn == class_1_diagnostic) (accepted_at bs (place_of bs named.diagnostic_text) (diagnostic_text (count_trailing_zeros 16 (pattern bytes % 0x1_0000)))) bs
 
 -- an accepted report: the data are replaced and valid, and the pass mark is gone
 abbrev pub reported_at : List Block → Option ℕ → ℕ → List ℕ → List Block

@@ -2,6 +2,7 @@
 use Rattle.std.specs.Prelude.{ℕ, ◌+◌, Bool, false, cond, not, List, length, drop, Some, None, Ok, Err, Option, Result, ◌==◌, nat_le, slice_index}
 use Rattle.refusal.specs.declared.Refusal.{Refusal}
 use Rattle.refusal.specs.declared.Refusal.TheVariants.{Length, Addressee, PhaseZero}
+use Rattle.block.specs.Named.{record_position, mdt_length}
 use Rattle.block.specs.Numbers.{word}
 use Rattle.block.specs.Phases.{phase_number}
 use Rattle.channel.specs.Controls.{handshake, upper_bits}
@@ -37,7 +38,7 @@ is_shared m = nat_le 3 (phase_number m.phase)
 
 -- the bytes of an MDT: 5, or the address and as many as S-0-0010 says
 abbrev pub mdt_size : Machine → ℕ
-mdt_size m = cond (is_shared m) (1 + value_at m.service.blocks 10) 5
+mdt_size m = cond (is_shared m) (1 + value_at m.service.blocks mdt_length) 5
 
 -- whom it is addressed to: the drive, or all
 abbrev pub mdt_address : Machine → ℕ
@@ -45,7 +46,7 @@ mdt_address m = cond (is_shared m) 255 m.address
 
 -- where the drive's record begins: after the address, or where S-0-0009 says
 abbrev pub record_start : Machine → ℕ
-record_start m = cond (is_shared m) (value_at m.service.blocks 9) 1
+record_start m = cond (is_shared m) (value_at m.service.blocks record_position) 1
 
 abbrev pub record_of : Machine → List ℕ → List ℕ
 record_of m t = drop (record_start m) t

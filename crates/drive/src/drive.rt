@@ -4,7 +4,7 @@ use block::phase::Phase;
 use service::service::Service;
 
 // Which telegrams were missed last: one miss of each kind may be running.
-#[derive(Clone, Copy, PartialEq, Eq, Debug)]
+#[derive(Clone, Copy, PartialEq, Eq, Default, Debug)]
 pub struct Misses {
     pub mst: bool,
     pub mdt: bool,

@@ -20,27 +20,17 @@ impl<S: Store> Drive<S> {
         if let Err(refusal) = check(address, &store) {
             return Err((refusal, store));
         }
-        let link = Link {
-            ahs: false,
-            place: None,
-            transfer: None,
-            error: false,
-            info: 0,
-        };
         let service = Service {
             store,
             mark: false,
-            link,
+            link: Link::CLOSED,
             kept: Kept::new(),
         };
         Ok(Drive {
             address,
             phase: Phase::Zero,
             service,
-            misses: Misses {
-                mst: false,
-                mdt: false,
-            },
+            misses: Misses::default(),
             out: None,
         })
     }

@@ -1,105 +1,80 @@
 // Reports of the drive's firmware.
 ghost use Rattle.std.specs.Int.Count.{count_trailing_zeros};
-ghost use Rattle.std.specs.Prelude.{◌≡◌, ◌%◌, length, Some, None, MatchResult};
-ghost use Rattle.std.specs.List.{slice_get};
+ghost use Rattle.std.specs.Prelude.{◌≡◌, length, Some, None, MatchResult};
 ghost use Rattle.block.specs.Lists.{place_of};
-ghost use Rattle.block.specs.Numbers.{pattern};
+ghost use Rattle.block.specs.Named as named;
 ghost use Rattle.block.specs.Phases.{phase_number};
+ghost use Rattle.block.specs.Values.{ok_unless};
 ghost use Rattle.service.specs.Changes.{accepted_at};
 ghost use Rattle.drive.specs.Machines.{view};
-ghost use Rattle.drive.specs.Reports.{is_drives, length_cause, value_cause, data_cause, head_refusal, block_refusal, report_refusal, diagnostic_text, diagnosed, report_answer, report_after};
+ghost use Rattle.drive.specs.Reports.{length_cause, data_cause, head_refusal, report_refusal, diagnostic_text, report_answer, report_after};
 
 use crate::drive::Drive;
 use block::attribute::Attribute;
 use block::idn::Idn;
+use block::idns::{CLASS_1_DIAGNOSTIC, DIAGNOSTIC_TEXT, is_timing};
 use block::keeper::Keeper;
 use block::phase::Phase;
-use block::value::{ValueFault, pattern_of};
-use channel::write::is_timing;
+use block::value::word_at;
 use refusal::{Cause, Refusal};
 use service::changes::{accept, accept_at};
 use service::link::Head;
+use std::cmp::Ordering;
 use store::store::Store;
-use store::value::value_fault;
+use store::value::check_value;
 
-// What is wrong with the length of reported data.
-fn length_cause(attribute: Attribute, most: u16, n: usize) -> Option<Cause>
-    ensures { result ≡ length_cause attribute.0 most n }
+// The check of the length of reported data.
+fn check_length(attribute: Attribute, most: u16, n: usize) -> Result<(), Cause>
+    ensures { result ≡ ok_unless (length_cause attribute.0 most n) }
 {
     let item = attribute.item();
     if attribute.is_list() {
         if n > usize::from(most) {
-            return Some(Cause::TooLong);
+            return Err(Cause::TooLong);
         }
         return if n % item == 0 {
-            None
+            Ok(())
         } else {
-            Some(Cause::Broken)
+            Err(Cause::Broken)
         };
     }
-    if n > item {
-        return Some(Cause::TooLong);
-    }
-    if n < item {
-        Some(Cause::TooShort)
-    } else {
-        None
+    match n.cmp(&item) {
+        Ordering::Less => Err(Cause::TooShort),
+        Ordering::Equal => Ok(()),
+        Ordering::Greater => Err(Cause::TooLong),
     }
 }
 
-// What is wrong with the value of reported data.
-fn value_cause(fault: Option<ValueFault>) -> Option<Cause>
-    ensures { result ≡ value_cause fault }
+// The check of reported data: the length, then the value.
+fn check_data<S: Store>(store: &S, head: Head, bytes: &[u8]) -> Result<(), Cause>
+    ensures { result ≡ ok_unless (data_cause (S.Store.blocks store.now) head bytes.now) }
 {
-    match fault? {
-        ValueFault::TooLow => Some(Cause::TooLow),
-        ValueFault::TooHigh => Some(Cause::TooHigh),
-        ValueFault::UnknownIdn => Some(Cause::Broken),
-    }
+    check_length(head.attribute, head.most, bytes.len())?;
+    check_value(store, head.attribute, head.limits, bytes)?;
+    Ok(())
 }
 
-fn data_cause<S: Store>(store: &S, head: Head, bytes: &[u8]) -> Option<Cause>
-    ensures { result ≡ data_cause (S.Store.blocks store.now) head bytes.now }
+// The check of a report on a block.
+fn check_head<S: Store>(store: &S, phase: Phase, head: Head, bytes: &[u8]) -> Result<(), Refusal>
+    ensures { result ≡ ok_unless (head_refusal (phase_number phase) (S.Store.blocks store.now) head bytes.now) }
 {
-    let length = length_cause(head.attribute, head.most, bytes.len());
-    if length.is_some() {
-        return length;
+    if head.keeper != Keeper::Drive {
+        return Err(Refusal::Keeper);
     }
-    value_cause(value_fault(store, head.attribute, head.limits, bytes))
-}
-
-// Why a report on a block is refused.
-fn head_refusal<S: Store>(store: &S, phase: Phase, head: Head, bytes: &[u8]) -> Option<Refusal>
-    ensures { result ≡ head_refusal (phase_number phase) (S.Store.blocks store.now) head bytes.now }
-{
-    if !is_drives(head.keeper) {
-        return Some(Refusal::Keeper);
+    if is_timing(head.idn) && phase != Phase::Zero {
+        return Err(Refusal::Timing);
     }
-    if is_timing(head.idn) && phase.number() != 0 {
-        return Some(Refusal::Timing);
-    }
-    match data_cause(store, head, bytes) {
-        Some(cause) => Some(Refusal::Value(cause)),
-        None => None,
-    }
-}
-
-fn is_drives(keeper: Keeper) -> bool
-    ensures { result ≡ is_drives keeper }
-{
-    match keeper {
-        Keeper::Drive => true,
-        Keeper::Master | Keeper::Channel | Keeper::Nobody => false,
-    }
+    check_data(store, head, bytes)?;
+    Ok(())
 }
 
 // S-0-0095 follows S-0-0011: the word's trailing zeros choose the text, and a word without a set bit has none.
 fn diagnose<S: Store>(store: &mut S, word: u16)
-    ensures { S.Store.blocks store.new ≡ accepted_at (S.Store.blocks store.old) (place_of (S.Store.blocks store.old) 95) (diagnostic_text (count_trailing_zeros 16 word)) }
+    ensures { S.Store.blocks store.new ≡ accepted_at (S.Store.blocks store.old) (place_of (S.Store.blocks store.old) named.diagnostic_text) (diagnostic_text (count_trailing_zeros 16 word)) }
 {
     let row = word.trailing_zeros();
     if row >= 16 {
-        accept_at(store, Idn(95), &[]);
+        accept_at(store, DIAGNOSTIC_TEXT, &[]);
         return;
     }
     let text = [
@@ -110,24 +85,18 @@ fn diagnose<S: Store>(store: &mut S, word: u16)
         b'0' + (row / 10) as u8,
         b'0' + (row % 10) as u8,
     ];
-    accept_at(store, Idn(95), &text);
+    accept_at(store, DIAGNOSTIC_TEXT, &text);
 }
 
 impl<S: Store> Drive<S> {
-    // Why a report is refused, or the place of its block.
+    // The place of the block of a report, or why the report is refused.
     fn report_verdict(&self, idn: Idn, bytes: &[u8]) -> Result<usize, Refusal>
         ensures { MatchResult result (λ place. (report_refusal (view S.Store.blocks self.now) idn.0 bytes.now ≡ None) × (Some place ≡ place_of (S.Store.blocks self.now.service.store) idn.0)) (λ e. report_refusal (view S.Store.blocks self.now) idn.0 bytes.now ≡ Some e) }
     {
-        let Some(place) = self.service.store.find(idn) else {
-            return Err(Refusal::Unknown);
-        };
-        let Some(head) = self.service.head_at(place) else {
-            return Err(Refusal::Unknown);
-        };
-        match head_refusal(&self.service.store, self.phase, head, bytes) {
-            Some(refusal) => Err(refusal),
-            None => Ok(place),
-        }
+        let place = self.service.store.find(idn).ok_or(Refusal::Unknown)?;
+        let head = self.service.head_at(place).ok_or(Refusal::Unknown)?;
+        check_head(&self.service.store, self.phase, head, bytes)?;
+        Ok(place)
     }
 
     // The firmware reports new data of a parameter that the drive keeps.
@@ -138,11 +107,8 @@ impl<S: Store> Drive<S> {
         let place = self.report_verdict(idn, bytes)?;
         accept(&mut self.service.store, place, bytes);
         self.service.mark = false;
-        if idn.0 == 11 {
-            diagnose(
-                &mut self.service.store,
-                (pattern_of(bytes) % 0x1_0000) as u16,
-            );
+        if idn == CLASS_1_DIAGNOSTIC {
+            diagnose(&mut self.service.store, word_at(bytes, 0));
         }
         Ok(())
     }

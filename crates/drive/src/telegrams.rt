@@ -1,39 +1,35 @@
 // The telegrams of the master: MST and MDT.
-ghost use Rattle.std.specs.Prelude.{◌≡◌, ◌+◌, ◌<◌, slice_index};
-ghost use Rattle.block.specs.Numbers.{word};
+ghost use Rattle.std.specs.Prelude.{◌≡◌};
+ghost use Rattle.block.specs.Values.{ok_unless};
 ghost use Rattle.channel.specs.Controls.{upper_bits};
 ghost use Rattle.drive.specs.Machines.{view};
-ghost use Rattle.drive.specs.Telegrams.{mst_answer, mst_after, is_shared, mdt_size, mdt_address, record_start, mdt_refusal, mdt_taken, control_of, mdt_answer, mdt_after};
+ghost use Rattle.drive.specs.Telegrams.{mst_answer, mst_after, is_shared, mdt_size, mdt_address, record_start, mdt_refusal, mdt_taken, record_of, control_of, mdt_answer, mdt_after};
 
 use crate::drive::Drive;
 use crate::phases::value_at;
-use block::idn::Idn;
-use block::value::byte_at;
+use block::idns::{MDT_LENGTH, RECORD_POSITION};
+use block::phase::Phase;
+use block::value::word_at;
 use channel::control::Control;
 use refusal::Refusal;
 use store::store::Store;
 
-// The word at a place, low byte first.
-fn word_at(bytes: &[u8], place: usize) -> u16
-    requires { place < 4 }
-    ensures { result ≡ word (slice_index bytes.now place) (slice_index bytes.now (place + 1)) }
-{
-    u16::from(byte_at(bytes, place)) + 256 * u16::from(byte_at(bytes, place + 1))
-}
+// The address of a telegram to all drives.
+const ALL: u8 = 255;
 
 impl<S: Store> Drive<S> {
-    // The master's synchronization telegram: address 255 and INFO.
+    // The master's synchronization telegram: the address of all and INFO.
     pub fn mst(&mut self, telegram: &[u8]) -> Result<(), Refusal>
         ensures answer { result ≡ mst_answer telegram.now }
         ensures after { view S.Store.blocks self.new ≡ mst_after (view S.Store.blocks self.old) telegram.now }
     {
-        if telegram.len() != 2 {
+        let [address, info] = *telegram else {
             return Err(Refusal::Length);
-        }
-        if telegram[0] != 255 {
+        };
+        if address != ALL {
             return Err(Refusal::Addressee);
         }
-        self.take_info(telegram[1]);
+        self.take_info(info);
         Ok(())
     }
 
@@ -41,7 +37,7 @@ impl<S: Store> Drive<S> {
     fn is_shared(&self) -> bool
         ensures { result ≡ is_shared (view S.Store.blocks self.now) }
     {
-        self.phase.number() >= 3
+        self.phase >= Phase::Three
     }
 
     // The bytes that an MDT must have now.
@@ -49,7 +45,7 @@ impl<S: Store> Drive<S> {
         ensures { result ≡ mdt_size (view S.Store.blocks self.now) }
     {
         if self.is_shared() {
-            1 + usize::from(value_at(&self.service.store, Idn(10)))
+            1 + usize::from(value_at(&self.service.store, MDT_LENGTH))
         } else {
             5
         }
@@ -59,7 +55,7 @@ impl<S: Store> Drive<S> {
     pub fn mdt_address(&self) -> u8
         ensures { result ≡ mdt_address (view S.Store.blocks self.now) }
     {
-        if self.is_shared() { 255 } else { self.address }
+        if self.is_shared() { ALL } else { self.address }
     }
 
     // Where the drive's record begins in an MDT.
@@ -67,29 +63,36 @@ impl<S: Store> Drive<S> {
         ensures { result ≡ record_start (view S.Store.blocks self.now) }
     {
         if self.is_shared() {
-            usize::from(value_at(&self.service.store, Idn(9)))
+            usize::from(value_at(&self.service.store, RECORD_POSITION))
         } else {
             1
         }
     }
 
-    // Why an MDT is refused.
-    fn mdt_refusal(&self, telegram: &[u8]) -> Option<Refusal>
-        ensures { result ≡ mdt_refusal (view S.Store.blocks self.now) telegram.now }
+    // Whether an MDT is taken, or why it is refused.
+    fn check_mdt(&self, telegram: &[u8]) -> Result<(), Refusal>
+        ensures { result ≡ ok_unless (mdt_refusal (view S.Store.blocks self.now) telegram.now) }
     {
-        if self.phase.number() == 0 {
-            return Some(Refusal::PhaseZero);
+        if self.phase == Phase::Zero {
+            return Err(Refusal::PhaseZero);
         }
         if telegram.len() != self.mdt_size() {
-            return Some(Refusal::Length);
+            return Err(Refusal::Length);
         }
-        if byte_at(telegram, 0) != self.mdt_address() {
-            return Some(Refusal::Addressee);
+        if telegram[0] != self.mdt_address() {
+            return Err(Refusal::Addressee);
         }
-        None
+        Ok(())
     }
 
-    // The drive's record in an MDT: a step, a repeat, or in phase 1 the handshake alone.
+    // The drive's record in an MDT, which is empty where it would begin past the end.
+    fn record_in<'a>(&self, telegram: &'a [u8]) -> &'a [u8]
+        ensures { result.now ≡ record_of (view S.Store.blocks self.now) telegram.now }
+    {
+        telegram.get(self.record_start()..).unwrap_or(&[])
+    }
+
+    // The record of an MDT: a step, a repeat, or in phase 1 the handshake alone.
     fn take_record(&mut self, part: &[u8]) -> u16
         ensures answer { result ≡ upper_bits (control_of part.now) }
         ensures after { view S.Store.blocks self.new ≡ mdt_taken (view S.Store.blocks self.old) part.now }
@@ -97,7 +100,7 @@ impl<S: Store> Drive<S> {
         let control = Control(word_at(part, 0));
         let info = word_at(part, 2);
         self.misses.mdt = false;
-        if self.phase.number() == 1 {
+        if self.phase == Phase::One {
             self.service.link.ahs = control.handshake();
         } else if control.handshake() != self.service.link.ahs {
             self.service.step(self.phase, self.out, control, info);
@@ -110,10 +113,8 @@ impl<S: Store> Drive<S> {
         ensures answer { result ≡ mdt_answer (view S.Store.blocks self.old) telegram.now }
         ensures after { view S.Store.blocks self.new ≡ mdt_after (view S.Store.blocks self.old) telegram.now }
     {
-        if let Some(refusal) = self.mdt_refusal(telegram) {
-            return Err(refusal);
-        }
-        let start = self.record_start().min(telegram.len());
-        Ok(self.take_record(&telegram[start..]))
+        self.check_mdt(telegram)?;
+        let part = self.record_in(telegram);
+        Ok(self.take_record(part))
     }
 }

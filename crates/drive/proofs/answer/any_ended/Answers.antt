@@ -1,22 +1,9 @@
-use Rattle.std.proofs.Common.{sym, ◌∙◌, arith}
-use Rattle.std.proofs.lemmas.List.{at_drop_all}
-use Rattle.std.proofs.lemmas.Bool.Decides.{nat_tests}
-use Rattle.drive.specs.Answers.{any_ended}
-use Rattle.drive.proofs.Records.{ended_more}
+use Rattle.std.proofs.Common.{rules, tests, Some, ◌∙◌}
+use Rattle.drive.specs.Answers.{is_ended_block}
+use Rattle.drive.proofs.Ending.{any_at_found}
 use Rattle.drive.proofs.answer.any_ended.Goals as goal
-
-pub returns-then-has_ended_at : goal.returns-then-has_ended_at
-returns-then-has_ended_at g c =
-    let more = ended_more (g.S.Store.blocks c.args.store.now) c.loop-place.place (omega arith) in
-    let here = c.if-has_ended_at.ensures in
-    grind (arith, nat_tests)
-
-pub loop-place-preserved : goal.loop-place-preserved
-loop-place-preserved g c =
-    let more = ended_more (g.S.Store.blocks c.args.store.now) c.loop-place.place (omega arith) in
-    let here = c.if-has_ended_at.ensures in
-    grind (arith, nat_tests)
 
 pub returns : goal.returns
 returns g c =
-    sym (at_drop_all any_ended (g.S.Store.blocks c.args.store.now) c.loop-place.place (omega arith)) ∙ c.loop-place.invariant
+    let found = c.first_where-ended.ensures (λ b. is_ended_block (Some b)) (λ v r q. search (rules, tests)) in
+    c.is_some.ensures ∙ any_at_found (g.S.Store.blocks c.args.store.now) c.first_where-ended.result found
