@@ -1,15 +1,13 @@
 -- A scan of the blocks or of the demands: what it finds, and what it says where it found nothing. Assumes nothing.
-use Rattle.std.proofs.Common.{◌≡◌, ℕ, zero, suc, ◌+◌, ◌<◌, ◌≤◌, Bool, true, false, cond, not, List, [], ◌∷◌, drop, is_some, Some, None, Option, Bor, sym, refl, ap, ◌∙◌, subst, arith}
+use Rattle.std.proofs.Common.{◌≡◌, ℕ, zero, suc, ◌<◌, Bool, true, false, cond, not, List, [], ◌∷◌, drop, is_some, Some, None, Option, Bor, refl, ap, ◌∙◌, subst, arith}
 use Rattle.std.specs.List.{find, slice_get}
 use Rattle.std.specs.Result.{is_ok}
 use Rattle.std.specs.Option.{MatchOption, option_map}
-use Rattle.std.proofs.lemmas.Bool.{cond-true, cond-false, lt-ltb, le-ltb}
 use Rattle.std.proofs.lemmas.Bool.Decides.{nat_tests}
 use Rattle.block.specs.declared.idn.Idn.{Idn}
 use Rattle.block.specs.declared.view.View.{View}
 use Rattle.block.specs.Blocks.{Block, seen}
 use Rattle.block.specs.Values.{ok_unless}
-use Rattle.block.proofs.Lists.{nth_drop}
 use Rattle.making.specs.declared.table.Demand.{Demand}
 use Rattle.making.specs.Rules.{idn_of, first_unordered, first_failing}
 use Rattle.making.specs.Met.{demand_met, first_unmet}
@@ -46,17 +44,6 @@ pub unmet_found : (bs : List Block) (ds : List Demand) (o : Option (Bor Demand))
     → MatchOption o (r ≡ None) (λ d. r ≡ Some d.now.idn) → r ≡ first_unmet bs ds
 unmet_found bs ds None r found given = given ∙ ap (option_map (λ d. d.idn)) found ∙ found_unmet bs ds
 unmet_found bs ds (Some d) r found given = given ∙ ap (option_map (λ d. d.idn)) found ∙ found_unmet bs ds
-
--- the scan for the order has come to the block b at place i, and what is left decides
-module _ (bs : List Block) (i before : ℕ) (left : first_unordered before (drop i bs) ≡ first_unordered 0 bs) where
-  pub unordered_here : (b : Block) → Some b ≡ slice_get bs i → b.idn ≤ before → Some (idn_of b) ≡ first_unordered 0 bs
-  unordered_here b at h =
-      sym (ap (first_unordered before) (nth_drop bs i b (sym at)) ∙ cond-false _ _ _ (le-ltb before b.idn h)) ∙ left
-
-  pub unordered_next : (b : Block) → Some b ≡ slice_get bs i → before < b.idn
-      → first_unordered b.idn (drop (i + 1) bs) ≡ first_unordered 0 bs
-  unordered_next b at h =
-      sym (ap (first_unordered before) (nth_drop bs i b (sym at)) ∙ cond-true _ _ _ (lt-ltb before b.idn h)) ∙ left
 
 -- where no block fails a test, each passes it
 pub none_failing : (test : Block → Bool) (bs : List Block) → first_failing test bs ≡ None

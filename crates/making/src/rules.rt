@@ -10,7 +10,7 @@ use block::attribute::Attribute;
 use block::idn::Idn;
 use block::keeper::Keeper;
 use block::view::View;
-use store::scan::first_where;
+use store::scan::{Views, first_where};
 use store::store::Store;
 use store::value::check_value;
 
@@ -26,8 +26,7 @@ pub fn first_unordered<S: Store>(store: &S) -> Option<Idn>
     ensures { result ≡ first_unordered 0 (S.Store.blocks store.now) }
 {
     let mut before = Idn(0);
-    for place in 0..store.count() {
-        let view = store.block(place)?;
+    for view in Views::of(store) {
         if view.idn <= before {
             return Some(view.idn);
         }

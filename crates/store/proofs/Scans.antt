@@ -1,13 +1,14 @@
--- A scan at one block: what is left from its place on. Assumes nothing.
-use Rattle.std.proofs.Common.{◌≡◌, ℕ, ◌+◌, Bool, true, false, List, Some, drop, sym, ap, ◌∙◌}
-use Rattle.std.specs.List.{find, slice_get}
-use Rattle.std.proofs.lemmas.Bool.{cond-true, cond-false}
+-- The blocks of a list from a place on. Assumes nothing.
+use Rattle.std.proofs.Common.{◌≡◌, ℕ, ◌+◌, ◌<◌, List, [], length, Some, None, drop, sym, ap, arith}
+use Rattle.std.specs.List.{slice_get}
+use Rattle.std.proofs.lemmas.List.{drop_all}
 use Rattle.block.specs.Blocks.{Block}
-use Rattle.block.proofs.Lists.{nth_drop}
+use Rattle.block.proofs.Lists.{nth_drop, nth_none}
 
-module _ (p : Block → Bool) (bs : List Block) (i : ℕ) (left : find p (drop i bs) ≡ find p bs) (b : Block) (at : Some b ≡ slice_get bs i) where
-  pub find_here : true ≡ p b → Some b ≡ find p bs
-  find_here h = sym (ap (find p) (nth_drop bs i b (sym at)) ∙ cond-true _ _ _ (sym h)) ∙ left
+-- none are left past the last
+pub none_left : (bs : List Block) (i : ℕ) → None ≡ slice_get bs i → drop i bs ≡ []
+none_left bs i at = drop_all i bs (nth_none bs i (sym at))
 
-  pub find_next : false ≡ p b → find p (drop (i + 1) bs) ≡ find p bs
-  find_next h = sym (ap (find p) (nth_drop bs i b (sym at)) ∙ cond-false _ _ _ (sym h)) ∙ left
+-- one fewer is left from the next place on
+pub fewer_left : (bs : List Block) (i : ℕ) (b : Block) → Some b ≡ slice_get bs i → length (drop (i + 1) bs) < length (drop i bs)
+fewer_left bs i b at = omega (arith, ap length (nth_drop bs i b (sym at)))
