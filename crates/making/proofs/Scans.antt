@@ -1,5 +1,5 @@
 -- A scan of the blocks or of the demands: what it finds, and what it says where it found nothing. Assumes nothing.
-use Rattle.std.proofs.Common.{◌≡◌, ℕ, zero, suc, ◌<◌, Bool, true, false, cond, not, List, [], ◌∷◌, drop, is_some, Some, None, Option, Bor, refl, ap, ◌∙◌, subst, arith}
+use Rattle.std.proofs.Common.{◌≡◌, ℕ, zero, suc, ◌<◌, Bool, true, false, cond, not, List, [], ◌∷◌, is_some, Some, None, Option, Bor, refl, ap, ◌∙◌, subst, arith}
 use Rattle.std.specs.List.{find, slice_get}
 use Rattle.std.specs.Result.{is_ok}
 use Rattle.std.specs.Option.{MatchOption, option_map}
