@@ -1,5 +1,6 @@
 -- Procedure commands: the words that the master writes, and the status that follows. Assumes nothing.
 use Rattle.std.specs.Prelude.{ℕ, Bool, true, cond, not, ◌||◌, Ok, Err, Result, ◌==◌}
+use Rattle.block.specs.Named.{phase_3_check, phase_4_check}
 use Rattle.channel.specs.declared.code.Digit.{Digit}
 use Rattle.channel.specs.declared.code.Digit.TheVariants.{Locked, Wrong}
 use Rattle.channel.specs.declared.command.CommandStatus.{CommandStatus}
@@ -39,7 +40,7 @@ has_ended status = status == 3 || status == 15
 
 -- S-0-0127 runs in phase 2 only, S-0-0128 in phase 3 only, other commands in every phase
 abbrev pub runs_in : ℕ → ℕ → Bool
-runs_in idn phase = cond (idn == 127) (phase == 2) (cond (idn == 128) (phase == 3) true)
+runs_in idn phase = cond (idn == phase_3_check) (phase == 2) (cond (idn == phase_4_check) (phase == 3) true)
 
 -- words 1 and 3 are shut out: the command has ended, another is active, an order is out for a command at 0, or the phase is wrong
 abbrev pub is_shut : ℕ → Bool → Bool → Bool → Bool

@@ -3,6 +3,7 @@ use Rattle.std.specs.Prelude.{ℕ, ◌+◌, ◌/◌, ◌%◌, Bool, true, false,
 use Rattle.block.specs.declared.keeper.Keeper.{Keeper}
 use Rattle.block.specs.declared.keeper.Keeper.TheVariants.{Master, Drive, Channel, Nobody}
 use Rattle.block.specs.Attributes.{length_code, is_list, item_size, is_protected}
+use Rattle.block.specs.Named.{is_timing}
 use Rattle.channel.specs.declared.code.Digit.{Digit}
 use Rattle.channel.specs.declared.code.Digit.TheVariants.{Early, Late, ReadOnly, Locked, Wrong}
 use Rattle.channel.specs.Layouts.{fixed_words}
@@ -13,11 +14,6 @@ is_masters Master = true
 is_masters Drive = false
 is_masters Channel = false
 is_masters Nobody = false
-
--- the ring's timings: cycle times, time slots, and place and length of the record
-abbrev pub is_timing : ℕ → Bool
-is_timing idn =
-    (idn == 1) || (idn == 2 || (idn == 3 || (idn == 5 || (idn == 6 || (idn == 7 || (idn == 9 || idn == 10))))))
 
 -- a timing outside phase 2, or a block that is protected in this phase
 abbrev pub is_locked : ℕ → ℕ → ℕ → Bool

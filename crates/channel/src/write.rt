@@ -2,28 +2,21 @@
 ghost use Rattle.std.specs.Prelude.{◌≡◌};
 ghost use Rattle.block.specs.Phases.{phase_number};
 ghost use Rattle.block.specs.Values.{ok_unless};
-ghost use Rattle.channel.specs.Writes.{is_timing, is_locked, final_word, is_too_long, is_broken, write_rule};
+ghost use Rattle.channel.specs.Writes.{is_locked, final_word, is_too_long, is_broken, write_rule};
 
 use crate::code::Digit;
 use crate::layout::fixed_words;
 use block::attribute::Attribute;
 use block::idn::Idn;
-use block::idns;
+use block::idns::is_timing;
 use block::keeper::Keeper;
 use block::phase::Phase;
-
-// Whether an IDN is one of the ring's timings.
-pub fn is_timing(idn: Idn) -> bool
-    ensures { result ≡ is_timing idn.0 }
-{
-    idns::is_timing(idn)
-}
 
 // A timing outside phase 2, or a block that is protected in this phase.
 pub fn is_locked(phase: Phase, idn: Idn, attribute: Attribute) -> bool
     ensures { result ≡ is_locked (phase_number phase) idn.0 attribute.0 }
 {
-    (idns::is_timing(idn) && phase != Phase::Two) || attribute.is_protected(phase)
+    (is_timing(idn) && phase != Phase::Two) || attribute.is_protected(phase)
 }
 
 // The number of the final word of data of this attribute, where a list has n bytes.
