@@ -67,8 +67,8 @@ fn asked_fits<S: Store>(store: &S, asked: Asked, view: View) -> bool
 }
 
 // The demanded block is there, and is as asked.
-fn demand_met<S: Store>(store: &S, demand: Demand) -> bool
-    ensures { result ≡ demand_met (S.Store.blocks store.now) demand }
+fn demand_met<S: Store>(store: &S, demand: &Demand) -> bool
+    ensures { result ≡ demand_met (S.Store.blocks store.now) demand.now }
 {
     block_of(store, demand.idn).is_some_and(|view| {
         is_kept_by(demand.keeper, view)
@@ -83,6 +83,6 @@ pub fn first_unmet<S: Store>(store: &S, demands: &[Demand]) -> Option<Idn>
 {
     demands
         .iter()
-        .find(|demand| !demand_met(store, **demand))
+        .find(|demand| !demand_met(store, demand))
         .map(|demand| demand.idn)
 }

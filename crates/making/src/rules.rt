@@ -1,7 +1,7 @@
 // The rules on the blocks of a store, one function each.
-ghost use Rattle.std.specs.Prelude.{◌≡◌};
+ghost use Rattle.std.specs.Prelude.{◌≡◌, Bool};
 ghost use Rattle.block.specs.Attributes.{is_command};
-ghost use Rattle.block.specs.Blocks.{seen};
+ghost use Rattle.block.specs.Blocks.{Block, seen};
 ghost use Rattle.making.specs.Rules.{address_fits, first_unordered, first_failing, attribute_fits, status_fits, content_fits, command_fits, lower_of, lowest_unmet};
 
 use crate::met::{first_unmet, is_idle, is_kept_by};
@@ -35,6 +35,14 @@ pub fn first_unordered<S: Store>(store: &S) -> Option<Idn>
     None
 }
 
+// The first block that fails a test.
+fn first_failing<S: Store, F: Fn(View<'_>) -> bool>(store: &S, fits: F) -> Option<Idn>
+    requires { (v : View) → F.pre fits v }
+    ensures { (p : Block → Bool) → ((v : View) (r : Bool) → F.post fits v r → r ≡ p (seen v)) → result ≡ first_failing p (S.Store.blocks store.now) }
+{
+    first_where(store, |view| !fits(view)).map(|view| view.idn)
+}
+
 // The attribute keeps its rules.
 fn attribute_fits(view: View) -> bool
     ensures { result ≡ attribute_fits (seen view.entry) }
@@ -46,7 +54,7 @@ fn attribute_fits(view: View) -> bool
 pub fn first_bad_attribute<S: Store>(store: &S) -> Option<Idn>
     ensures { result ≡ first_failing attribute_fits (S.Store.blocks store.now) }
 {
-    first_where(store, |view| !attribute_fits(view)).map(|view| view.idn)
+    first_failing(store, attribute_fits)
 }
 
 // A parameter's status has bit 8 only, a command's bits 8 and 3 to 0 only.
@@ -54,9 +62,9 @@ fn status_fits(attribute: Attribute, status: u16) -> bool
     ensures { result ≡ status_fits (is_command attribute.0) status }
 {
     if attribute.is_command() {
-        status < 0x200 && status % 0x100 < 0x10
+        matches!(status, 0..=0xf | 0x100..=0x10f)
     } else {
-        status == 0 || status == 0x100
+        matches!(status, 0 | 0x100)
     }
 }
 
@@ -73,7 +81,7 @@ fn content_fits<S: Store>(store: &S, view: View) -> bool
 pub fn first_bad_content<S: Store>(store: &S) -> Option<Idn>
     ensures { result ≡ first_failing (content_fits (S.Store.blocks store.now)) (S.Store.blocks store.now) }
 {
-    first_where(store, |view| !content_fits(store, view)).map(|view| view.idn)
+    first_failing(store, |view| content_fits(store, view))
 }
 
 // A command is kept by the master and has not been started.
@@ -87,7 +95,7 @@ fn command_fits(view: View) -> bool
 fn first_bad_command<S: Store>(store: &S) -> Option<Idn>
     ensures { result ≡ first_failing command_fits (S.Store.blocks store.now) }
 {
-    first_where(store, |view| !command_fits(view)).map(|view| view.idn)
+    first_failing(store, command_fits)
 }
 
 // The lower of two IDNs that may be there.

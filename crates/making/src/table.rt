@@ -45,55 +45,53 @@ const IDN_LIST: Form = Form::Parameter(LengthCode::WordList, DataType::IdnType);
 
 const TEXT: Form = Form::Parameter(LengthCode::ByteList, DataType::Text);
 
+// A timing that the master sets, and one that the drive tells; the other timings differ from these in their IDN.
+const MASTER_TIMING: Demand = Demand {
+    idn: T_NCYC,
+    keeper: Keeper::Master,
+    form: TIMING,
+    asked: Asked::Nothing,
+};
+
+const DRIVE_TIMING: Demand = Demand {
+    idn: T1_MIN,
+    keeper: Keeper::Drive,
+    ..MASTER_TIMING
+};
+
 // The demanded blocks, in the order of their IDNs.
 pub const DEMANDED: [Demand; 16] = [
     Demand {
         idn: T_NCYC,
-        keeper: Keeper::Master,
-        form: TIMING,
-        asked: Asked::Nothing,
+        ..MASTER_TIMING
     },
     Demand {
         idn: T_SCYC,
-        keeper: Keeper::Master,
-        form: TIMING,
-        asked: Asked::Nothing,
+        ..MASTER_TIMING
     },
     Demand {
         idn: T1_MIN,
-        keeper: Keeper::Drive,
-        form: TIMING,
-        asked: Asked::Nothing,
+        ..DRIVE_TIMING
     },
     Demand {
         idn: T5,
-        keeper: Keeper::Drive,
-        form: TIMING,
-        asked: Asked::Nothing,
+        ..DRIVE_TIMING
     },
     Demand {
         idn: T1,
-        keeper: Keeper::Master,
-        form: TIMING,
-        asked: Asked::Nothing,
+        ..MASTER_TIMING
     },
     Demand {
         idn: T4,
-        keeper: Keeper::Master,
-        form: TIMING,
-        asked: Asked::Nothing,
+        ..MASTER_TIMING
     },
     Demand {
         idn: RECORD_POSITION,
-        keeper: Keeper::Master,
-        form: TIMING,
-        asked: Asked::Nothing,
+        ..MASTER_TIMING
     },
     Demand {
         idn: MDT_LENGTH,
-        keeper: Keeper::Master,
-        form: TIMING,
-        asked: Asked::Nothing,
+        ..MASTER_TIMING
     },
     Demand {
         idn: CLASS_1_DIAGNOSTIC,

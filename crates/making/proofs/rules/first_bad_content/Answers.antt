@@ -1,10 +1,6 @@
-use Rattle.std.proofs.Common.{not, rules}
+use Rattle.std.proofs.Common.{rules}
 use Rattle.making.specs.Rules.{content_fits}
-use Rattle.making.proofs.Scans.{failing_found}
 use Rattle.making.proofs.rules.first_bad_content.Goals as goal
 
 pub returns : goal.returns
-returns g c =
-    let blocks = g.S.Store.blocks c.args.store.now in
-    failing_found (content_fits blocks) blocks c.first_where.result c.map.result
-    (c.first_where.ensures (λ b. not (content_fits blocks b)) (λ v r told. search rules)) (search rules)
+returns g c = c.first_failing.ensures (content_fits (g.S.Store.blocks c.args.store.now)) (λ v r gave. search rules)
