@@ -19,10 +19,10 @@ use Rattle.making.specs.declared.table.Asked.{Asked}
 use Rattle.making.specs.declared.table.Asked.TheVariants.{Nothing, Zero, Idle, Room, RoomFor}
 use Rattle.making.specs.Making.{or_next, blocks_verdict, making_verdict}
 use Rattle.making.specs.Passed.{AtRest, PassedBlock, HasForm, HasAsked, Stands, AllStand, Passed}
-use Rattle.making.specs.Rules.{address_fits, first_unordered, first_failing, attribute_fits, status_fits, valid_fits, value_fits, content_fits, command_fits, lower_of, lowest_unmet}
+use Rattle.making.specs.Rules.{idn_of, address_fits, first_unordered, first_failing, attribute_fits, status_fits, valid_fits, value_fits, content_fits, command_fits, lower_of, lowest_unmet}
 use Rattle.making.specs.Met.{bytes_of, bytes_in, keeper_number, is_kept_by, is_zero, is_idle, form_fits, asked_fits, meets, met_by, demand_met, first_unmet}
 use Rattle.making.specs.Table.{demanded}
-use Rattle.making.proofs.Scans.{none_failing, none_unordered, none_swapped, none_unmet}
+use Rattle.making.proofs.Scans.{none_unfit, none_below, none_swapped}
 
 -- a rule that lets the store pass found nothing
 passed_rule : (refusal : Idn → Refusal) (o : Option Idn) (next : Result (Unit {0}) Refusal) → or_next refusal o next ≡ Ok tt
@@ -47,7 +47,7 @@ place_at : (before : ℕ) (bs : List Block) → first_unordered before bs ≡ No
 place_at before [] up i b at = absurd (grind arith)
 place_at before (c ∷ cs) up zero b at = grind (arith, nat_tests)
 place_at before (c ∷ cs) up (suc i) b at =
-    let above = none_unordered c.idn cs (grind arith) i b at in
+    let above = none_below idn_of c.idn cs (grind arith) i b at in
     let later = place_at c.idn cs (grind arith) i b at in
     grind (arith, nat_tests)
 
@@ -149,7 +149,7 @@ module _ (bs : List Block) (d : Demand) where
 
 all_stand : (bs : List Block) → first_unmet bs demanded ≡ None → AllStand bs
 all_stand bs none =
-    let at : (i : ℕ) (d : Demand) → slice_get demanded i ≡ Some d → Stands bs d = λ i d is. met_stands bs d (none_unmet bs demanded none i d is) in
+    let at : (i : ℕ) (d : Demand) → slice_get demanded i ≡ Some d → Stands bs d = λ i d is. met_stands bs d (none_unfit (λ d. d.idn) (demand_met bs) demanded none i d is) in
     record {
       t_ncyc = at 0 _ refl;
       t_scyc = at 1 _ refl;
@@ -187,8 +187,8 @@ making_passed a bs ok =
     record {
       above = leb-true 1 a ends.0;
       below = leb-true a 254 ends.1;
-      order = none_swapped 0 bs order.0;
+      order = none_swapped idn_of 0 bs order.0;
       found = place_at 0 bs order.0;
-      each = λ i b at. passed_block bs b (none_unordered 0 bs order.0 i b at) (none_failing attribute_fits bs attribute.0 i b at) (none_failing (content_fits bs) bs content.0 i b at) (none_failing command_fits bs unmet.1 i b at);
+      each = λ i b at. passed_block bs b (none_below idn_of 0 bs order.0 i b at) (none_unfit idn_of attribute_fits bs attribute.0 i b at) (none_unfit idn_of (content_fits bs) bs content.0 i b at) (none_unfit idn_of command_fits bs unmet.1 i b at);
       demanded = all_stand bs unmet.0;
     }

@@ -1,86 +1,86 @@
--- A scan of the blocks or of the demands: what it finds, and what it says where it found nothing. Assumes nothing.
-use Rattle.std.proofs.Common.{◌≡◌, ℕ, zero, suc, ◌<◌, Bool, true, false, cond, not, List, [], ◌∷◌, is_some, Some, None, Option, Bor, refl, ap, ◌∙◌, subst, arith}
+-- A scan over items that have IDNs: what it finds, and what it says where it found nothing. Assumes nothing.
+use Rattle.std.proofs.Common.{◌≡◌, ℕ, zero, suc, ◌<◌, ◌≤◌, Bool, true, false, cond, not, List, [], ◌∷◌, is_some, Some, None, Option, refl, ap, ◌∙◌, ⊎_elim, arith}
 use Rattle.std.specs.List.{find, slice_get}
-use Rattle.std.specs.Result.{is_ok}
 use Rattle.std.specs.Option.{MatchOption, option_map}
+use Rattle.std.specs.Result.{is_ok}
+use Rattle.std.proofs.lemmas.Bool.{cases_Bool}
 use Rattle.std.proofs.lemmas.Bool.Decides.{nat_tests}
 use Rattle.block.specs.declared.idn.Idn.{Idn}
-use Rattle.block.specs.declared.view.View.{View}
-use Rattle.block.specs.Blocks.{Block, seen}
 use Rattle.block.specs.Values.{ok_unless}
-use Rattle.making.specs.declared.table.Demand.{Demand}
-use Rattle.making.specs.Rules.{idn_of, first_unordered, first_failing}
-use Rattle.making.specs.Met.{demand_met, first_unmet}
+use Rattle.making.specs.Scans.{first_below, first_unfit}
 
 -- what may be at fault is well where nothing is
 pub ok_is : {E : Type 0} (o : Option E) → is_ok (ok_unless o) ≡ not (is_some o)
 ok_is None = refl
 ok_is (Some e) = refl
 
--- the first block that fails a test is what a search finds
-found_failing : (test : Block → Bool) (bs : List Block) → option_map idn_of (find (λ b. not (test b)) bs) ≡ first_failing test bs
-found_failing test [] = refl
-found_failing test (b ∷ bs) =
-    elim (test b) as (λ t. option_map idn_of (cond (not t) (Some b) (find (λ x. not (test x)) bs)) ≡ cond t (first_failing test bs) (Some (idn_of b))) [
-      | true ↦ found_failing test bs
-      | false ↦ refl
-    ]
+module _ {X : Type 0} (idn : X → Idn) where
+  -- where the IDNs ascend from above a number, each is above it
+  pub none_below : (before : ℕ) (xs : List X) → first_below idn before xs ≡ None
+      → (i : ℕ) (x : X) → slice_get xs i ≡ Some x → before < (idn x).0
+  none_below before [] none i x at = absurd (grind arith)
+  none_below before (y ∷ ys) none zero x at = grind (arith, nat_tests)
+  none_below before (y ∷ ys) none (suc i) x at =
+      let first : before < (idn y).0 = grind (arith, nat_tests) in
+      omega (arith, none_below (idn y).0 ys (grind arith) i x at)
 
-pub failing_found : (test : Block → Bool) (bs : List Block) (o : Option View) (r : Option Idn) → option_map seen o ≡ find (λ b. not (test b)) bs
-    → MatchOption o (r ≡ None) (λ v. r ≡ Some v.idn) → r ≡ first_failing test bs
-failing_found test bs None r found given = given ∙ ap (option_map idn_of) found ∙ found_failing test bs
-failing_found test bs (Some v) r found given = given ∙ ap (option_map idn_of) found ∙ found_failing test bs
+  -- and of two the later is above the earlier
+  pub none_swapped : (before : ℕ) (xs : List X) → first_below idn before xs ≡ None
+      → (i j : ℕ) (x y : X) → i < j → slice_get xs i ≡ Some x → slice_get xs j ≡ Some y → (idn x).0 < (idn y).0
+  none_swapped before [] none i j x y lt at at' = absurd (grind arith)
+  none_swapped before (z ∷ zs) none i zero x y lt at at' = absurd (omega arith)
+  none_swapped before (z ∷ zs) none zero (suc j) x y lt at at' =
+      let same : (idn z).0 ≡ (idn x).0 = grind arith in
+      omega (arith, same, none_below (idn z).0 zs (grind arith) j y at')
+  none_swapped before (z ∷ zs) none (suc i) (suc j) x y lt at at' =
+      none_swapped (idn z).0 zs (grind arith) i j x y (omega arith) at at'
 
--- the same for the demands
-found_unmet : (bs : List Block) (ds : List Demand) → option_map (λ d. d.idn) (find (λ d. not (demand_met bs d)) ds) ≡ first_unmet bs ds
-found_unmet bs [] = refl
-found_unmet bs (d ∷ ds) =
-    elim (demand_met bs d) as (λ t. option_map (λ x. x.idn) (cond (not t) (Some d) (find (λ x. not (demand_met bs x)) ds)) ≡ cond t (first_unmet bs ds) (Some d.idn)) [
-      | true ↦ found_unmet bs ds
-      | false ↦ refl
-    ]
+  -- the item that a scan finds
+  pub record Unfit (test : X → Bool) (xs : List X) (i : Idn) : Type 0 where
+    pub place : ℕ
+    pub item : X
+    pub shown : slice_get xs place ≡ Some item
+    pub named : idn item ≡ i
+    pub unfit : test item ≡ false
 
-pub unmet_found : (bs : List Block) (ds : List Demand) (o : Option (Bor Demand)) (r : Option Idn) → option_map (λ d. d.now) o ≡ find (λ d. not (demand_met bs d)) ds
-    → MatchOption o (r ≡ None) (λ d. r ≡ Some d.now.idn) → r ≡ first_unmet bs ds
-unmet_found bs ds None r found given = given ∙ ap (option_map (λ d. d.idn)) found ∙ found_unmet bs ds
-unmet_found bs ds (Some d) r found given = given ∙ ap (option_map (λ d. d.idn)) found ∙ found_unmet bs ds
+  module _ (test : X → Bool) where
+    found_unfit : (xs : List X) → option_map idn (find (λ x. not (test x)) xs) ≡ first_unfit idn test xs
+    found_unfit [] = refl
+    found_unfit (x ∷ xs) =
+        elim (test x) as (λ t. option_map idn (cond (not t) (Some x) (find (λ y. not (test y)) xs)) ≡ cond t (first_unfit idn test xs) (Some (idn x))) [
+          | true ↦ found_unfit xs
+          | false ↦ refl
+        ]
 
--- where no block fails a test, each passes it
-pub none_failing : (test : Block → Bool) (bs : List Block) → first_failing test bs ≡ None
-    → (i : ℕ) (b : Block) → slice_get bs i ≡ Some b → test b ≡ true
-none_failing test [] none i b at = absurd (grind arith)
-none_failing test (c ∷ cs) none zero b at = grind arith
-none_failing test (c ∷ cs) none (suc i) b at = none_failing test cs (grind arith) i b at
+    -- the first that fails is what a search finds, where v reads what it gives
+    pub unfit_found : {A : Type 0} (v : A → X) (xs : List X) (o : Option A) (r : Option Idn) → option_map v o ≡ find (λ x. not (test x)) xs
+        → MatchOption o (r ≡ None) (λ a. r ≡ Some (idn (v a))) → r ≡ first_unfit idn test xs
+    unfit_found v xs None r found given = given ∙ ap (option_map idn) found ∙ found_unfit xs
+    unfit_found v xs (Some a) r found given = given ∙ ap (option_map idn) found ∙ found_unfit xs
 
--- where the IDNs ascend from above a number, each is above it
-pub none_unordered : (before : ℕ) (bs : List Block) → first_unordered before bs ≡ None
-    → (i : ℕ) (b : Block) → slice_get bs i ≡ Some b → before < b.idn
-none_unordered before [] none i b at = absurd (grind arith)
-none_unordered before (c ∷ cs) none zero b at = grind (arith, nat_tests)
-none_unordered before (c ∷ cs) none (suc i) b at =
-    let first : before < c.idn = grind (arith, nat_tests) in
-    omega (arith, none_unordered c.idn cs (grind arith) i b at)
+    -- where no item fails, each passes
+    pub none_unfit : (xs : List X) → first_unfit idn test xs ≡ None → (i : ℕ) (x : X) → slice_get xs i ≡ Some x → test x ≡ true
+    none_unfit [] none i x at = absurd (grind arith)
+    none_unfit (y ∷ ys) none zero x at = grind arith
+    none_unfit (y ∷ ys) none (suc i) x at = none_unfit ys (grind arith) i x at
 
--- and of two the later is above the earlier
-pub none_swapped : (before : ℕ) (bs : List Block) → first_unordered before bs ≡ None
-    → (i j : ℕ) (b c : Block) → i < j → slice_get bs i ≡ Some b → slice_get bs j ≡ Some c → b.idn < c.idn
-none_swapped before [] none i j b c lt at at' = absurd (grind arith)
-none_swapped before (d ∷ ds) none i zero b c lt at at' = absurd (omega arith)
-none_swapped before (d ∷ ds) none zero (suc j) b c lt at at' =
-    let same : d.idn ≡ b.idn = grind arith in
-    omega (arith, same, none_unordered d.idn ds (grind arith) j c at')
-none_swapped before (d ∷ ds) none (suc i) (suc j) b c lt at at' =
-    none_swapped d.idn ds (grind arith) i j b c (omega arith) at at'
+    pub unfit_at : (xs : List X) (i : Idn) → first_unfit idn test xs ≡ Some i → Unfit test xs i
+    unfit_at [] i is = absurd (grind arith)
+    unfit_at (y ∷ ys) i is =
+        ⊎_elim
+        (λ t. let later = unfit_at ys i (grind arith) in record { place = suc later.place; item = later.item; shown = later.shown; named = later.named; unfit = later.unfit })
+        (λ f. record { place = 0; item = y; shown = refl; named = grind arith; unfit = f })
+        (cases_Bool (test y))
 
-first_met : (t : Bool) (o : Option Idn) (i : Idn) → cond t o (Some i) ≡ None → t ≡ true
-first_met true o i h = refl
-first_met false o i h = absurd (grind arith)
-
--- where no demand is unmet, each is met
-pub none_unmet : (bs : List Block) (ds : List Demand) → first_unmet bs ds ≡ None
-    → (i : ℕ) (d : Demand) → slice_get ds i ≡ Some d → demand_met bs d ≡ true
-none_unmet bs [] none i d at = absurd (grind arith)
-none_unmet bs (e ∷ es) none zero d at =
-    let same : e ≡ d = cc in
-    subst (λ x. demand_met bs x ≡ true) same (first_met (demand_met bs e) (first_unmet bs es) e.idn none)
-none_unmet bs (e ∷ es) none (suc i) d at = none_unmet bs es (grind arith) i d at
+    -- where the IDNs ascend, an item that fails is not below the first that does
+    pub unfit_lowest : (before : ℕ) (xs : List X) → first_below idn before xs ≡ None
+        → (i : Idn) → first_unfit idn test xs ≡ Some i → (k : ℕ) (x : X) → slice_get xs k ≡ Some x → test x ≡ false → i.0 ≤ (idn x).0
+    unfit_lowest before [] up i is k x at bad = absurd (grind arith)
+    unfit_lowest before (y ∷ ys) up i is zero x at bad =
+        let first : idn x ≡ i = grind arith in
+        omega (arith, ap (λ n. n.0) first)
+    unfit_lowest before (y ∷ ys) up i is (suc k) x at bad =
+        ⊎_elim
+        (λ t. unfit_lowest (idn y).0 ys (grind arith) i (grind arith) k x at bad)
+        (λ f. let first : idn y ≡ i = grind arith in omega (arith, ap (λ n. n.0) first, none_below (idn y).0 ys (grind arith) k x at))
+        (cases_Bool (test y))

@@ -1,3 +1,4 @@
+pub mod Scans
 pub mod Table
 pub mod Met
 pub mod Rules

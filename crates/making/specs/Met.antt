@@ -1,5 +1,5 @@
 -- Which demand a list of blocks does not meet. Assumes nothing.
-use Rattle.std.specs.Prelude.{ℕ, Bool, true, false, cond, not, ◌&&◌, List, [], ◌∷◌, length, Some, None, Option, ◌==◌, nat_le, slice_index}
+use Rattle.std.specs.Prelude.{ℕ, Bool, true, false, not, ◌&&◌, List, length, Some, None, Option, ◌==◌, nat_le, slice_index}
 use Rattle.block.specs.declared.idn.Idn.{Idn}
 use Rattle.block.specs.declared.keeper.Keeper.{Keeper}
 use Rattle.block.specs.declared.keeper.Keeper.TheVariants.{Master, Drive, Channel, Nobody}
@@ -11,6 +11,7 @@ use Rattle.making.specs.declared.table.Form.{Form}
 use Rattle.making.specs.declared.table.Form.TheVariants.{Parameter, Command}
 use Rattle.making.specs.declared.table.Asked.{Asked}
 use Rattle.making.specs.declared.table.Asked.TheVariants.{Nothing, Zero, Idle, Room, RoomFor}
+use Rattle.making.specs.Scans.{first_unfit}
 
 -- how many bytes the data of a block have that may be there
 abbrev pub bytes_in : Option Block → ℕ
@@ -69,5 +70,4 @@ demand_met blocks d = met_by blocks d (block_of blocks d.idn.0)
 
 -- the first demand that is not met
 abbrev pub first_unmet : List Block → List Demand → Option Idn
-first_unmet blocks [] = None
-first_unmet blocks (d ∷ ds) = cond (demand_met blocks d) (first_unmet blocks ds) (Some d.idn)
+first_unmet blocks demands = first_unfit (λ d. d.idn) (demand_met blocks) demands

@@ -1,10 +1,11 @@
 -- The rules that a store is checked by before a drive is made over it, each over all blocks. Assumes nothing.
-use Rattle.std.specs.Prelude.{ℕ, ◌%◌, Bool, cond, not, ◌&&◌, ◌||◌, List, [], ◌∷◌, is_some, Some, None, Option, ◌==◌, nat_le, nat_lt}
+use Rattle.std.specs.Prelude.{ℕ, ◌%◌, Bool, cond, not, ◌&&◌, ◌||◌, List, is_some, Some, None, Option, ◌==◌, nat_le, nat_lt}
 use Rattle.block.specs.declared.idn.Idn.{Idn}
 use Rattle.block.specs.declared.keeper.Keeper.TheVariants.{Master}
 use Rattle.block.specs.Attributes.{is_command, attribute_kept}
 use Rattle.block.specs.Blocks.{Block, is_invalid, is_kept}
 use Rattle.block.specs.Values.{value_fault}
+use Rattle.making.specs.Scans.{first_below, first_unfit}
 use Rattle.making.specs.Met.{is_kept_by, is_idle, first_unmet}
 use Rattle.making.specs.Table.{demanded}
 
@@ -17,13 +18,11 @@ idn_of b = record { 0 = b.idn }
 
 -- the first block whose IDN is not above the one before it; the first has to be above `before`
 abbrev pub first_unordered : ℕ → List Block → Option Idn
-first_unordered before [] = None
-first_unordered before (b ∷ bs) = cond (nat_lt before b.idn) (first_unordered b.idn bs) (Some (idn_of b))
+first_unordered before blocks = first_below idn_of before blocks
 
 -- the first block that fails a test
 abbrev pub first_failing : (Block → Bool) → List Block → Option Idn
-first_failing test [] = None
-first_failing test (b ∷ bs) = cond (test b) (first_failing test bs) (Some (idn_of b))
+first_failing test blocks = first_unfit idn_of test blocks
 
 -- the attribute keeps its rules
 abbrev pub attribute_fits : Block → Bool
