@@ -1,3 +1,2 @@
 mod Resets
-mod Ending
 mod Checking

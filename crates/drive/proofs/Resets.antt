@@ -75,11 +75,3 @@ reset_other [] i t = refl
 reset_other (b ∷ bs) zero t =
     sym (ap (λ c. cond (c && is_kept b.keeper) (with_status 0 (cond (length_fits b.attribute b.most 2) (with_content (0 ∷ 0 ∷ []) b) b)) b ∷ bs) t)
 reset_other (b ∷ bs) (suc i) t = ap (λ l. b ∷ l) (reset_other bs i t)
-
--- what a store does when data are replaced and then a status is set
-pub store_changes : (bs cs ds : List Block) (i : ℕ) (bytes : List ℕ) (word : ℕ) (r t : Bool)
-    → r ≡ may_replace (slice_get bs i) (length bytes) → cs ≡ cond r (changed bs i (with_content bytes)) bs
-    → t ≡ may_mark (slice_get cs i) → ds ≡ cond t (changed cs i (with_status word)) cs → ds ≡ status_set (replaced bs i bytes) i word
-store_changes bs cs ds i bytes word r t er ec et ed =
-    let first : cs ≡ replaced bs i bytes = ec ∙ ap (λ b. cond b (changed bs i (with_content bytes)) bs) er in
-    ed ∙ ap (λ b. cond b (changed cs i (with_status word)) cs) et ∙ ap (λ l. status_set l i word) first

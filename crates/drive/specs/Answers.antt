@@ -1,5 +1,6 @@
 -- The AT, the drive's telegram: address, status word, service info. Assumes nothing.
-use Rattle.std.specs.Prelude.{ℕ, ◌+◌, Bool, false, cond, ◌&&◌, ◌||◌, List, [], ◌∷◌, ◌++◌, length, drop, Some, None, Option, Result, ◌==◌, nat_lt}
+use Rattle.std.specs.Prelude.{ℕ, ◌+◌, Bool, false, cond, ◌&&◌, List, ◌∷◌, ◌++◌, length, drop, Some, None, Option, Result, ◌==◌, nat_lt}
+use Rattle.std.specs.List.{list_any}
 use Rattle.refusal.specs.declared.Refusal.{Refusal}
 use Rattle.refusal.specs.declared.Refusal.TheVariants.{PhaseZero, Buffer}
 use Rattle.block.specs.Attributes.{is_command}
@@ -18,8 +19,7 @@ is_ended_block (Some b) = is_command b.attribute && has_ended b.status
 
 -- some command has ended
 abbrev pub any_ended : List Block → Bool
-any_ended [] = false
-any_ended (b ∷ bs) = is_ended_block (Some b) || any_ended bs
+any_ended bs = list_any (λ b. is_ended_block (Some b)) bs
 
 -- bit 0 AHS, bit 2 error, bit 5 some command has ended, bits 15 to 6 the caller's
 abbrev pub status_word : Machine → ℕ → ℕ

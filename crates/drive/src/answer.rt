@@ -8,17 +8,14 @@ use block::phase::Phase;
 use channel::command::has_ended;
 use channel::control::Control;
 use refusal::Refusal;
-use store::scan::first_where;
+use store::scan::Views;
 use store::store::Store;
 
 // Whether some command has ended.
 fn any_ended<S: Store>(store: &S) -> bool
     ensures { result ≡ any_ended (S.Store.blocks store.now) }
 {
-    let ended = first_where(store, |view| {
-        view.attribute.is_command() && has_ended(view.status)
-    });
-    ended.is_some()
+    Views::of(store).any(|view| view.attribute.is_command() && has_ended(view.status))
 }
 
 impl<S: Store> Drive<S> {

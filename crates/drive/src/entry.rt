@@ -68,16 +68,12 @@ impl<S: Store> Drive<S> {
     pub fn miss_mst(&mut self)
         ensures { view S.Store.blocks self.new ≡ mst_miss (view S.Store.blocks self.old) }
     {
-        let misses = self.misses;
         if self.phase >= Phase::Three {
-            self.miss(
-                misses.mst,
-                Misses {
-                    mst: true,
-                    ..misses
-                },
-                Fault::MstMissed,
-            );
+            let misses = Misses {
+                mst: true,
+                ..self.misses
+            };
+            self.miss(self.misses.mst, misses, Fault::MstMissed);
         }
     }
 
@@ -85,16 +81,12 @@ impl<S: Store> Drive<S> {
     pub fn miss_mdt(&mut self)
         ensures { view S.Store.blocks self.new ≡ mdt_miss (view S.Store.blocks self.old) }
     {
-        let misses = self.misses;
         if self.phase == Phase::Four {
-            self.miss(
-                misses.mdt,
-                Misses {
-                    mdt: true,
-                    ..misses
-                },
-                Fault::MdtMissed,
-            );
+            let misses = Misses {
+                mdt: true,
+                ..self.misses
+            };
+            self.miss(self.misses.mdt, misses, Fault::MdtMissed);
         }
     }
 

@@ -10,7 +10,7 @@ use block::idn::Idn;
 use block::idns::INTERFACE_STATUS;
 use block::phase::Phase;
 use block::value::word_at;
-use service::changes::accept_at;
+use service::changes::{accept, accept_at};
 use std::marker::Model;
 use store::scan::block_of;
 use store::store::Store;
@@ -42,7 +42,7 @@ impl Fault {
 }
 
 // The fault bits of the interface status, all below 512.
-#[derive(Clone, Copy, PartialEq, Eq, Debug)]
+#[derive(Clone, Copy)]
 pub(crate) struct Faults(u16);
 
 impl Model for Faults {
@@ -107,8 +107,7 @@ fn reset_at<S: Store>(store: &mut S, place: usize)
     ensures { S.Store.blocks store.new ≡ changed (S.Store.blocks store.old) place reset_block }
 {
     if is_command_at(store, place) {
-        let _ = store.replace(place, &[0, 0]);
-        let _ = store.set_status(place, 0);
+        accept(store, place, &[0, 0]);
     }
 }
 

@@ -73,18 +73,14 @@ fn diagnose<S: Store>(store: &mut S, word: u16)
     ensures { S.Store.blocks store.new ≡ accepted_at (S.Store.blocks store.old) (place_of (S.Store.blocks store.old) named.diagnostic_text) (diagnostic_text (count_trailing_zeros 16 word)) }
 {
     let row = word.trailing_zeros();
-    if row >= 16 {
+    if row == u16::BITS {
         accept_at(store, DIAGNOSTIC_TEXT, &[]);
         return;
     }
-    let text = [
-        b'C',
-        b'1',
-        b'D',
-        b' ',
-        b'0' + (row / 10) as u8,
-        b'0' + (row % 10) as u8,
-    ];
+    // stays: two digits by hand, since a Display needs a writer over fixed memory, and there is no heap for a String
+    let mut text = *b"C1D 00";
+    text[4] += (row / 10) as u8;
+    text[5] += (row % 10) as u8;
     accept_at(store, DIAGNOSTIC_TEXT, &text);
 }
 
