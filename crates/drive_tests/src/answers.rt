@@ -1,4 +1,5 @@
 // The AT in its buffer, and what is handed on of the upper bits.
+use crate::play::make;
 use crate::sample::{ROWS, memory, states};
 use drive::drive::Drive;
 use refusal::Refusal;
@@ -27,13 +28,8 @@ fn answer<S: Store>(rt: &impl Abort, drive: &mut Drive<S>) -> Result<(), Fail> {
 
 // Makes drive 7 and reads its AT.
 fn answer_over<S: Store + Drop>(rt: &impl Abort, store: S) -> Result<(), Fail> {
-    match Drive::make(7, store) {
-        Ok(mut drive) => answer(rt, &mut drive),
-        Err((refusal, _)) => {
-            assert_eq!(rt; Some(refusal), None);
-            Ok(())
-        },
-    }
+    let mut drive = make(7, store)?;
+    answer(rt, &mut drive)
 }
 
 #[test]

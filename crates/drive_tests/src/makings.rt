@@ -1,27 +1,17 @@
 // Stores and addresses that no drive is made over.
+use crate::play::make;
 use crate::sample::{ROWS, memory, states};
 use block::idn::Idn;
-use drive::drive::Drive;
-use refusal::Refusal;
 use rows::plan::Plan;
-use store::store::Store;
 use table::table::Table;
 
-// Why no drive is made.
-fn refusal_of<S: Store + Drop>(address: u8, store: S) -> Option<Refusal> {
-    match Drive::make(address, store) {
-        Ok(_) => None,
-        Err((refusal, _)) => Some(refusal),
-    }
-}
-
-// The same as number and IDN, for a store of the first rows.
+// Why no drive is made over a store of the first rows: number and IDN.
 fn made(address: u8, count: usize) -> Option<(u8, Option<Idn>)> {
     let n = count.min(17);
     let plan = Plan::new(&ROWS[0..n]);
     let mut states = states();
     let mut bytes = memory();
-    let refusal = refusal_of(address, Table::new(&plan, &mut states[0..n], &mut bytes))?;
+    let refusal = make(address, Table::new(&plan, &mut states[0..n], &mut bytes)).err()?;
     Some((refusal.number(), refusal.idn()))
 }
 

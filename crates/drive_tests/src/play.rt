@@ -22,78 +22,45 @@ pub enum Sent {
     Report(u16, [u8; 2]),
 }
 
-// The status word and the info of the next AT, or a refusal.
+// The status word and the info of an AT.
 #[derive(Clone, Copy, PartialEq, Eq, Debug)]
-pub enum Shown {
-    At(u16, u16),
-    No(Refusal),
-}
+pub struct At(pub u16, pub u16);
 
+// What is sent, and then the next AT, or why there is none.
 #[derive(Clone, Copy)]
-pub struct Step(pub Sent, pub Shown);
+pub struct Step(pub Sent, pub Result<At, Refusal>);
 
-fn low(word: u16) -> u8 {
-    (word % 256) as u8
-}
-
-fn high(word: u16) -> u8 {
-    (word / 256) as u8
+// Control word and info, low bytes first.
+fn record(control: u16, info: u16) -> [u8; 4] {
+    let [a, b] = control.to_le_bytes();
+    let [c, d] = info.to_le_bytes();
+    [a, b, c, d]
 }
 
 fn send<S: Store>(drive: &mut Drive<S>, sent: Sent) -> Result<(), Refusal> {
     match sent {
-        Sent::Mst(info) => drive.mst(&[255, info]),
+        Sent::Mst(info) => drive.mst(&[255, info])?,
         Sent::Mdt(control, info) => {
-            let telegram = [1, low(control), high(control), low(info), high(info)];
-            let _ = drive.mdt(&telegram)?;
-            Ok(())
+            let [a, b, c, d] = record(control, info);
+            let _ = drive.mdt(&[1, a, b, c, d])?;
         }
         Sent::Shared(control, info) => {
-            let telegram = [
-                255,
-                0xaa,
-                0xaa,
-                low(control),
-                high(control),
-                low(info),
-                high(info),
-                0xaa,
-                0xaa,
-            ];
-            let _ = drive.mdt(&telegram)?;
-            Ok(())
+            let [a, b, c, d] = record(control, info);
+            let _ = drive.mdt(&[255, 0xaa, 0xaa, a, b, c, d, 0xaa, 0xaa])?;
         }
-        Sent::MissMst => {
-            drive.miss_mst();
-            Ok(())
-        }
-        Sent::MissMdt => {
-            drive.miss_mdt();
-            Ok(())
-        }
-        Sent::Report(idn, bytes) => drive.report(Idn(idn), &bytes),
+        Sent::MissMst => drive.miss_mst(),
+        Sent::MissMdt => drive.miss_mdt(),
+        Sent::Report(idn, bytes) => drive.report(Idn(idn), &bytes)?,
     }
+    Ok(())
 }
 
-fn next_at<S: Store>(drive: &Drive<S>) -> Shown {
+fn exchange<S: Store>(drive: &mut Drive<S>, sent: Sent) -> Result<At, Refusal> {
+    send(drive, sent)?;
     let mut at = [0; 5];
-    match drive.at(0, &mut at) {
-        Ok(()) => {
-            let [_, a, b, c, d] = at;
-            Shown::At(
-                u16::from(a) + 256 * u16::from(b),
-                u16::from(c) + 256 * u16::from(d),
-            )
-        }
-        Err(refusal) => Shown::No(refusal),
-    }
-}
-
-fn exchange<S: Store>(drive: &mut Drive<S>, sent: Sent) -> Shown {
-    match send(drive, sent) {
-        Ok(()) => next_at(drive),
-        Err(refusal) => Shown::No(refusal),
-    }
+    drive.at(0, &mut at)?;
+    let [_, a, b, c, d] = at;
+    Ok(At(u16::from_le_bytes([a, b]), u16::from_le_bytes([c, d])))
 }
 
 fn follow<S: Store>(rt: &impl Abort, drive: &mut Drive<S>, steps: &[Step]) -> Result<(), Fail> {
@@ -104,13 +71,13 @@ fn follow<S: Store>(rt: &impl Abort, drive: &mut Drive<S>, steps: &[Step]) -> Re
     Ok(())
 }
 
+// A drive over a store, or why none is made.
+pub fn make<S: Store + Drop>(address: u8, store: S) -> Result<Drive<S>, Refusal> {
+    Drive::make(address, store).map_err(|(refusal, _)| refusal)
+}
+
 // Makes drive 1 over a store and plays the steps.
 pub fn play<S: Store + Drop>(rt: &impl Abort, store: S, steps: &[Step]) -> Result<(), Fail> {
-    match Drive::make(1, store) {
-        Ok(mut drive) => follow(rt, &mut drive, steps),
-        Err((refusal, _)) => {
-            assert_eq!(rt; Some(refusal), None);
-            Ok(())
-        },
-    }
+    let mut drive = make(1, store)?;
+    follow(rt, &mut drive, steps)
 }

@@ -1,10 +1,8 @@
 // Reports of the firmware, and the text that follows S-0-0011.
 use crate::play::Sent::{Mdt, Mst, Report};
-use crate::play::Shown::{At, No};
-use crate::play::{Step, play};
+use crate::play::{At, Step, make, play};
 use crate::sample::{ROWS, memory, states};
 use block::idn::Idn;
-use drive::drive::Drive;
 use refusal::{Cause, Refusal};
 use rows::plan::Plan;
 use std::test::Fail;
@@ -14,37 +12,37 @@ use table::table::Table;
 // Reports between the steps of the channel.
 static STEPS: [Step; 26] = [
     // in phase 0 a timing may be reported within its limits
-    Step(Report(5, [0xff, 0xff]), No(Refusal::Value(Cause::TooHigh))),
-    Step(Report(5, [10, 0]), No(Refusal::PhaseZero)),
-    Step(Mst(1), At(0x0000, 0x0000)),
-    Step(Mst(2), At(0x0000, 0x0000)),
+    Step(Report(5, [0xff, 0xff]), Err(Refusal::Value(Cause::TooHigh))),
+    Step(Report(5, [10, 0]), Err(Refusal::PhaseZero)),
+    Step(Mst(1), Ok(At(0x0000, 0x0000))),
+    Step(Mst(2), Ok(At(0x0000, 0x0000))),
     // S-0-0005 has the reported 10
-    Step(Mdt(0x000f, 0x0005), At(0x0001, 0x0000)),
-    Step(Mdt(0x003c, 0x0000), At(0x0000, 0x000a)),
+    Step(Mdt(0x000f, 0x0005), Ok(At(0x0001, 0x0000))),
+    Step(Mdt(0x003c, 0x0000), Ok(At(0x0000, 0x000a))),
     // refused: no such block, not the drive's, a timing
-    Step(Report(12, [0, 0]), No(Refusal::Unknown)),
-    Step(Report(1, [62, 0]), No(Refusal::Keeper)),
-    Step(Report(5, [9, 0]), No(Refusal::Timing)),
-    Step(Mst(2), At(0x0000, 0x000a)),
+    Step(Report(12, [0, 0]), Err(Refusal::Unknown)),
+    Step(Report(1, [62, 0]), Err(Refusal::Keeper)),
+    Step(Report(5, [9, 0]), Err(Refusal::Timing)),
+    Step(Mst(2), Ok(At(0x0000, 0x000a))),
     // bit 3 of S-0-0011 makes the text C1D 03 of at most 32 bytes
-    Step(Report(11, [0x08, 0x00]), At(0x0000, 0x000a)),
-    Step(Mdt(0x000f, 0x005f), At(0x0001, 0x0000)),
-    Step(Mdt(0x0038, 0x0000), At(0x0000, 0x0006)),
-    Step(Mdt(0x0039, 0x0000), At(0x0001, 0x0020)),
-    Step(Mdt(0x0038, 0x0000), At(0x0000, 0x3143)),
-    Step(Mdt(0x0039, 0x0000), At(0x0001, 0x2044)),
-    Step(Mdt(0x003c, 0x0000), At(0x0000, 0x3330)),
+    Step(Report(11, [0x08, 0x00]), Ok(At(0x0000, 0x000a))),
+    Step(Mdt(0x000f, 0x005f), Ok(At(0x0001, 0x0000))),
+    Step(Mdt(0x0038, 0x0000), Ok(At(0x0000, 0x0006))),
+    Step(Mdt(0x0039, 0x0000), Ok(At(0x0001, 0x0020))),
+    Step(Mdt(0x0038, 0x0000), Ok(At(0x0000, 0x3143))),
+    Step(Mdt(0x0039, 0x0000), Ok(At(0x0001, 0x2044))),
+    Step(Mdt(0x003c, 0x0000), Ok(At(0x0000, 0x3330))),
     // the lowest set bit counts
-    Step(Report(11, [0x00, 0xc0]), At(0x0000, 0x3330)),
-    Step(Mdt(0x0039, 0x0000), At(0x0001, 0x0006)),
-    Step(Mdt(0x0038, 0x0000), At(0x0000, 0x0020)),
-    Step(Mdt(0x0039, 0x0000), At(0x0001, 0x3143)),
-    Step(Mdt(0x0038, 0x0000), At(0x0000, 0x2044)),
-    Step(Mdt(0x003d, 0x0000), At(0x0001, 0x3431)),
+    Step(Report(11, [0x00, 0xc0]), Ok(At(0x0000, 0x3330))),
+    Step(Mdt(0x0039, 0x0000), Ok(At(0x0001, 0x0006))),
+    Step(Mdt(0x0038, 0x0000), Ok(At(0x0000, 0x0020))),
+    Step(Mdt(0x0039, 0x0000), Ok(At(0x0001, 0x3143))),
+    Step(Mdt(0x0038, 0x0000), Ok(At(0x0000, 0x2044))),
+    Step(Mdt(0x003d, 0x0000), Ok(At(0x0001, 0x3431))),
     // no bit, no text
-    Step(Report(11, [0x00, 0x00]), At(0x0001, 0x3431)),
-    Step(Mdt(0x0038, 0x0000), At(0x0000, 0x0000)),
-    Step(Mdt(0x003d, 0x0000), At(0x0001, 0x0020)),
+    Step(Report(11, [0x00, 0x00]), Ok(At(0x0001, 0x3431))),
+    Step(Mdt(0x0038, 0x0000), Ok(At(0x0000, 0x0000))),
+    Step(Mdt(0x003d, 0x0000), Ok(At(0x0001, 0x0020))),
 ];
 
 #[test]
@@ -56,28 +54,22 @@ fn reports_set_the_diagnostic_text(rt: HostRuntime) -> Result<(), Fail> {
 }
 
 // What a drive over a store says to a report.
-fn refusal_of<S: Store + Drop>(store: S, idn: u16, bytes: &[u8]) -> Option<Refusal> {
-    match Drive::make(1, store) {
-        Ok(mut drive) => drive.report(Idn(idn), bytes).err(),
-        Err((refusal, _)) => Some(refusal),
-    }
+fn report_over<S: Store + Drop>(store: S, idn: u16, bytes: &[u8]) -> Result<(), Refusal> {
+    make(1, store)?.report(Idn(idn), bytes)
 }
 
-fn report(idn: u16, bytes: &[u8]) -> Option<Refusal> {
+fn report(idn: u16, bytes: &[u8]) -> Result<(), Refusal> {
     let plan = Plan::new(&ROWS);
     let mut states = states();
     let mut memory = memory();
-    refusal_of(Table::new(&plan, &mut states, &mut memory), idn, bytes)
+    report_over(Table::new(&plan, &mut states, &mut memory), idn, bytes)
 }
 
 #[test]
 fn reports_of_a_wrong_length(rt: HostRuntime) {
-    assert_eq!(rt; report(11, &[8]), Some(Refusal::Value(Cause::TooShort)));
-    assert_eq!(rt;
-        report(11, &[8, 0, 0]),
-        Some(Refusal::Value(Cause::TooLong))
-    );
-    assert_eq!(rt; report(11, &[8, 0]), None);
+    assert_eq!(rt; report(11, &[8]), Err(Refusal::Value(Cause::TooShort)));
+    assert_eq!(rt; report(11, &[8, 0, 0]), Err(Refusal::Value(Cause::TooLong)));
+    assert_eq!(rt; report(11, &[8, 0]), Ok(()));
     assert_eq!(rt; Refusal::Unknown.number(), 10);
     assert_eq!(rt; Refusal::Keeper.number(), 11);
     assert_eq!(rt; Refusal::Value(Cause::TooShort).number(), 13);
