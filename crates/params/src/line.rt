@@ -9,16 +9,13 @@ use std::alloc::{AllocError, Global};
 
 // Bytes as text: what is not printable ASCII shows as a dot.
 fn printable(heap: Global, bytes: &[u8]) -> Result<String, AllocError> {
-    let mut text = String::new(heap);
-    for b in bytes {
-        let c = if *b >= 0x20 && *b < 0x7f {
-            char::from(*b)
-        } else {
-            '.'
-        };
-        text.push(c)?;
-    }
-    Ok(text)
+    bytes
+        .iter()
+        .map(|b| match b {
+            0x20..=0x7e => char::from(*b),
+            _ => '.',
+        })
+        .collect(heap)
 }
 
 // One item as its type says: a number, a bit pattern or an IDN.
@@ -43,18 +40,12 @@ fn list_text(
     item: usize,
     bytes: &[u8],
 ) -> Result<String, AllocError> {
-    let mut text = String::from_str(heap, "[")?;
-    if item > 0 {
-        for (i, one) in bytes.chunks(item).enumerate() {
-            if i > 0 {
-                text.push(' ')?;
-            }
-            let shown = item_text(heap, attribute, pattern_of(one))?;
-            text.push_str(shown.as_str())?;
-        }
-    }
-    text.push(']')?;
-    Ok(text)
+    let items = bytes
+        .chunks(item.max(1))
+        .map(|one| item_text(heap, attribute, pattern_of(one)))
+        .try_collect::<Vec<String>>(heap)?;
+    let items = items.as_slice().join(heap, " ")?;
+    format!(in heap; "[{items}]")
 }
 
 // The operation data as their attribute says.
@@ -101,7 +92,7 @@ pub fn line(heap: Global, view: View<'_>) -> Result<String, AllocError> {
     let form = form_text(heap, view.attribute)?;
     let limits = limits_text(heap, view.attribute, view.limits)?;
     let data = data_text(heap, view.attribute, view.content)?;
-    let valid = valid_word(view.status);
+    let valid = valid_word(&view);
     let name = printable(heap, view.name)?;
     let mut text = format!(in heap;
         "{idn}  {keeper:<7}  {form:<23}  {limits:<11}  {valid:<7}  {name}: {data}"

@@ -6,59 +6,63 @@ mod sample;
 mod words;
 
 use block::idn::Idn;
+use block::idns::T_NCYC;
 use joined::Joined;
 use rows::plan::Plan;
-use std::alloc::Global;
+use sample::{ENCODER_ERRORS, TYPE_PLATE};
+use std::alloc::{AllocError, Global};
 use std::io;
+use store::scan::Views;
 use store::store::Store;
 use table::catalogue::Catalogue;
 use table::table::Table;
 
 // Every block as a line, in the order of the store.
-fn lines<S: Store>(heap: Global, store: &S) -> io::Result<Vec<String>> {
-    let mut all = Vec::new(heap);
-    for place in 0..store.count() {
-        if let Some(view) = store.block(place) {
-            let text = line::line(heap, view)?;
-            all.push(text)?;
-        }
-    }
-    Ok(all)
+fn lines<S: Store>(heap: Global, store: &S) -> Result<Vec<String>, AllocError> {
+    Views::of(store)
+        .map(|view| line::line(heap, view))
+        .try_collect(heap)
 }
 
-// Tells what a replacement came to.
+// Does something to one block, and tells what it came to.
+fn change<S: Store, F: FnOnce(&mut S, usize) -> bool>(
+    rt: &HostRuntime,
+    store: &mut S,
+    verb: &str,
+    success: &str,
+    idn: Idn,
+    act: F,
+) -> io::Result<()>
+    requires { F.IsAlwaysCallable act }
+{
+    let Some(place) = store.find(idn) else {
+        return println!(rt; "{verb} {idn}: no such block");
+    };
+    let answer = if act(store, place) {
+        success
+    } else {
+        "refused, nothing changed"
+    };
+    println!(rt; "{verb} {idn}: {answer}")
+}
+
 fn replace<S: Store>(rt: &HostRuntime, store: &mut S, idn: Idn, bytes: &[u8]) -> io::Result<()> {
-    let Some(place) = store.find(idn) else {
-        return println!(rt; "replace {idn}: no such block");
-    };
-    let done = store.replace(place, bytes);
-    let answer = if done {
-        "replaced"
-    } else {
-        "refused, nothing changed"
-    };
-    println!(rt; "replace {idn}: {answer}")
+    change(rt, store, "replace", "replaced", idn, |store, place| {
+        store.replace(place, bytes)
+    })
 }
 
-// Tells what a new status came to.
 fn set_status<S: Store>(rt: &HostRuntime, store: &mut S, idn: Idn, status: u16) -> io::Result<()> {
-    let Some(place) = store.find(idn) else {
-        return println!(rt; "status {idn}: no such block");
-    };
-    let done = store.set_status(place, status);
-    let answer = if done {
-        "set"
-    } else {
-        "refused, nothing changed"
-    };
-    println!(rt; "status {idn}: {answer}")
+    change(rt, store, "status", "set", idn, |store, place| {
+        store.set_status(place, status)
+    })
 }
 
 // Prints those lines that differ from what they were.
 fn print_changed(rt: &HostRuntime, before: &Vec<String>, after: &Vec<String>) -> io::Result<()> {
     for (was, is) in before.iter().zip(after.iter()) {
-        if was.as_str() != is.as_str() {
-            rt.println(is.as_str())?;
+        if was != is {
+            rt.println(is)?;
         }
     }
     Ok(())
@@ -69,18 +73,14 @@ fn tour<S: Store>(rt: &HostRuntime, store: &mut S) -> io::Result<()> {
     let heap = rt.alloc();
     let before = lines(heap, store)?;
     for text in before.iter() {
-        rt.println(text.as_str())?;
+        rt.println(text)?;
     }
-    replace(rt, store, Idn(1), &[0xd0, 0x07])?;
-    set_status(rt, store, Idn(1), 0)?;
-    replace(
-        rt,
-        store,
-        Idn(0xd431),
-        &[1, 0, 0, 0, 2, 0, 0, 0, 3, 0, 0, 0],
-    )?;
-    replace(rt, store, Idn(0x8010), b"SV-500")?;
-    replace(rt, store, Idn(0xd431), &[1, 2, 3])?;
+    replace(rt, store, T_NCYC, &[0xd0, 0x07])?;
+    set_status(rt, store, T_NCYC, 0)?;
+    let errors = [1, 0, 0, 0, 2, 0, 0, 0, 3, 0, 0, 0];
+    replace(rt, store, ENCODER_ERRORS, &errors)?;
+    replace(rt, store, TYPE_PLATE, b"SV-500")?;
+    replace(rt, store, ENCODER_ERRORS, &[1, 2, 3])?;
     let after = lines(heap, store)?;
     print_changed(rt, &before, &after)
 }

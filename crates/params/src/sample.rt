@@ -1,9 +1,17 @@
 // The rows of a small servo drive: ring timings, a catalogue of fixed data, and product parameters.
 use block::attribute::Attribute;
 use block::idn::Idn;
+use block::idns::{PHASE_3_CHECK, PHASE_4_BLOCKS, T_NCYC, T_SCYC};
 use block::keeper::Keeper;
 use block::limits::Limits;
 use rows::row::{Row, State};
+
+// What this maker adds to the IDNs of the standard.
+pub const TYPE_PLATE: Idn = Idn(0x8010);
+
+pub const BACKLASH: Idn = Idn(0x8031);
+
+pub const ENCODER_ERRORS: Idn = Idn(0xd431);
 
 // unsigned two bytes, signed two bytes, text, list of IDNs, list of signed four-byte items, command
 const UNSIGNED: Attribute = Attribute(0x0011_0001);
@@ -25,7 +33,7 @@ const INVALID: u16 = 0x0100;
 // Rows of the ring's timings, with the data areas at 0, 2 and 4.
 pub static TIMINGS: [Row<'static>; 3] = [
     Row {
-        idn: Idn(1),
+        idn: T_NCYC,
         keeper: Keeper::Master,
         name: b"NC cycle time",
         attribute: UNSIGNED,
@@ -38,7 +46,7 @@ pub static TIMINGS: [Row<'static>; 3] = [
         start: 0,
     },
     Row {
-        idn: Idn(2),
+        idn: T_SCYC,
         keeper: Keeper::Master,
         name: b"Ring cycle time",
         attribute: UNSIGNED,
@@ -51,7 +59,7 @@ pub static TIMINGS: [Row<'static>; 3] = [
         start: 2,
     },
     Row {
-        idn: Idn(127),
+        idn: PHASE_3_CHECK,
         keeper: Keeper::Master,
         name: b"Phase 3 check",
         attribute: COMMAND,
@@ -82,7 +90,7 @@ pub const TIMING_BYTES: [u8; 6] = [0xe8, 0x03, 0xd0, 0x07, 0, 0];
 // What a maker burns into the drive: which blocks must be valid, and the type plate.
 pub static PLATE: [Row<'static>; 2] = [
     Row {
-        idn: Idn(19),
+        idn: PHASE_4_BLOCKS,
         keeper: Keeper::Channel,
         name: b"Data for phase 4",
         attribute: IDN_LIST,
@@ -92,7 +100,7 @@ pub static PLATE: [Row<'static>; 2] = [
         start: 0,
     },
     Row {
-        idn: Idn(0x8010),
+        idn: TYPE_PLATE,
         keeper: Keeper::Channel,
         name: b"Type plate",
         attribute: TEXT,
@@ -121,7 +129,7 @@ pub const PLATE_BYTES: [u8; 24] = [
 // Product parameters of the axis.
 pub static AXIS: [Row<'static>; 2] = [
     Row {
-        idn: Idn(0x8031),
+        idn: BACKLASH,
         keeper: Keeper::Master,
         name: b"Backlash",
         attribute: SIGNED,
@@ -134,7 +142,7 @@ pub static AXIS: [Row<'static>; 2] = [
         start: 0,
     },
     Row {
-        idn: Idn(0xd431),
+        idn: ENCODER_ERRORS,
         keeper: Keeper::Drive,
         name: b"Encoder errors",
         attribute: LONG_LIST,
