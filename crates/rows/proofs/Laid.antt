@@ -1,12 +1,11 @@
 -- Rows one by one: what is left of them decides whether they are well laid. Assumes nothing.
-use Rattle.std.proofs.Common.{◌≡◌, ℕ, ◌+◌, ◌<◌, ◌≤◌, true, ◌&&◌, eqb, List, [], length, get_or, drop, None, arith}
-use Rattle.std.proofs.lemmas.List.{at_drop_more}
+use Rattle.std.proofs.Common.{◌≡◌, ℕ, ◌≤◌, true, List, [], get_or, None, arith}
 use Rattle.std.proofs.lemmas.Bool.{and_parts}
 use Rattle.std.proofs.lemmas.Bool.Decides.{nat_tests}
 use Rattle.block.specs.declared.keeper.Keeper.TheVariants.{Master}
 use Rattle.block.specs.Blocks.{maximum_fits}
 use Rattle.rows.specs.declared.row.Row.{Row}
-use Rattle.rows.specs.Rows.{area_of, row_kept, laid_from, size_of}
+use Rattle.rows.specs.Rows.{area_of, row_kept}
 
 -- what a read past the end would give
 abbrev pub blank_row : Row
@@ -14,14 +13,6 @@ blank_row = record { idn = record { 0 = 0 }; keeper = Master; name = record { re
 
 abbrev pub row_at : List Row → ℕ → Row
 row_at rs i = get_or rs i blank_row
-
--- one row more
-pub laid_more : (rs : List Row) (i from : ℕ) → i < length rs
-    → laid_from from (drop i rs) ≡ (eqb (row_at rs i).start from && (row_kept (row_at rs i) && laid_from (from + area_of (row_at rs i)) (drop (i + 1) rs)))
-laid_more rs i from h = at_drop_more (laid_from from) rs i blank_row h
-
-pub size_more : (rs : List Row) (i : ℕ) → i < length rs → size_of (drop i rs) ≡ area_of (row_at rs i) + size_of (drop (i + 1) rs)
-size_more rs i h = at_drop_more size_of rs i blank_row h
 
 -- a row that keeps the rules has a small area
 pub area_small : (r : Row) → row_kept r ≡ true → area_of r ≤ 1020

@@ -3,7 +3,6 @@ use Rattle.std.proofs.Common.{◌≡◌, ℕ, zero, suc, ◌+◌, ◌<◌, ◌�
 use lib.Seq.{paste}
 use Rattle.std.specs.List.{slice_get}
 use Rattle.std.specs.Option.{option_map}
-use Rattle.std.proofs.lemmas.List.{drop_more, drop_all}
 use Rattle.std.proofs.lemmas.List.Edits.{length-paste}
 use Rattle.std.proofs.lemmas.Option.{slice_get_past}
 use Rattle.std.proofs.lemmas.Bool.{and_parts, and_from, eqb-true, cond_both, cond-true, leb-true, le-leb, false≢true, cases_lt, cases_Bool}
@@ -15,7 +14,7 @@ use Rattle.rows.specs.declared.row.Row.{Row}
 use Rattle.rows.specs.declared.row.State.{State}
 use Rattle.rows.specs.Rows.{row_idn, row_kept, area_of, laid_from, size_of, start_at, place_in}
 use Rattle.rows.specs.Shown.{shortest, shown_length, block_of, blocks_of, states_fit, is_matched, matched_blocks, marked, resized, written}
-use Rattle.rows.proofs.Laid.{blank_row, row_at, area_small}
+use Rattle.rows.proofs.Laid.{row_at, area_small}
 use Rattle.rows.proofs.Slices.{part_before, part_behind, part_at}
 
 abbrev pub state_at : List State → ℕ → State
@@ -164,17 +163,7 @@ matched_kept rs ss bytes laid =
     (λ t. let in' = (match_parts rs ss bytes t).1 in blocks_kept rs ss bytes 0 laid (omega arith))
     (λ t. refl)
 
--- count, first place and block of rows that match
-pub matched_length : (rs : List Row) (ss : List State) (bytes : List ℕ) → is_matched rs ss bytes ≡ true
-    → length (matched_blocks rs ss bytes) ≡ length rs
-matched_length rs ss bytes t =
-    ap length (cond-true (is_matched rs ss bytes) (blocks_of rs ss bytes) [] t) ∙ length-blocks rs ss bytes (match_parts rs ss bytes t).0
-
-pub matched_place : (rs : List Row) (ss : List State) (bytes : List ℕ) (n : ℕ) → is_matched rs ss bytes ≡ true
-    → place_of (matched_blocks rs ss bytes) n ≡ place_in (map row_idn rs) n
-matched_place rs ss bytes n t =
-    ap (λ l. place_of l n) (cond-true (is_matched rs ss bytes) (blocks_of rs ss bytes) [] t) ∙ place-blocks rs ss bytes n (match_parts rs ss bytes t).0
-
+-- the block at a place of rows that match
 pub matched_nth : (rs : List Row) (ss : List State) (bytes : List ℕ) (i : ℕ) → is_matched rs ss bytes ≡ true → i < length rs
     → slice_get (matched_blocks rs ss bytes) i ≡ Some (block_of (row_at rs i) (state_at ss i) bytes)
 matched_nth rs ss bytes i t h =
@@ -187,16 +176,7 @@ matched_past rs ss bytes i h =
     (λ t. slice_get_past (blocks_of rs ss bytes) i (omega (arith, length-blocks rs ss bytes (match_parts rs ss bytes t).0)))
     (λ t. refl)
 
--- states one by one
-pub states_more : (rs : List Row) (ss : List State) (i : ℕ) → i < length rs → i < length ss
-    → states_fit (drop i rs) (drop i ss) ≡ (length_fits (row_at rs i).attribute.0 (row_at rs i).most (state_at ss i).length && states_fit (drop (i + 1) rs) (drop (i + 1) ss))
-states_more rs ss i h k =
-    ap (λ l. states_fit l (drop i ss)) (drop_more rs i blank_row h)
-    ∙ ap (states_fit (row_at rs i ∷ drop (i + 1) rs)) (drop_more ss i (record { status = 0; length = 0 }) k)
-
-pub states_all : (rs : List Row) (ss : List State) (i : ℕ) → length rs ≤ i → length ss ≤ i → states_fit (drop i rs) (drop i ss) ≡ true
-states_all rs ss i h k = rw (drop_all i rs h, drop_all i ss k)
-
+-- states that fit are as many as the rows
 pub states_as_many : (rs : List Row) (ss : List State) → states_fit rs ss ≡ true → length ss ≡ length rs
 states_as_many [] [] t = refl
 states_as_many [] (s ∷ ss) t = absurd (false≢true t)

@@ -42,6 +42,10 @@ is_matched rs ss bytes = length ss == length rs && nat_le (size_of rs) (length b
 abbrev pub matched_blocks : List Row → List State → List ℕ → List Block
 matched_blocks rs ss bytes = cond (is_matched rs ss bytes) (blocks_of rs ss bytes) []
 
+-- the same, where `fits` notes that the lengths in the states were found to fit
+abbrev pub shown_blocks : Bool → List Row → List State → List ℕ → List Block
+shown_blocks fits rs ss bytes = cond fits (matched_blocks rs ss bytes) []
+
 -- what rows, states and memory mean: their blocks, or none where one of them breaks the rules
 abbrev pub row_blocks : List Row → List State → List ℕ → List Block
 row_blocks rs ss bytes =

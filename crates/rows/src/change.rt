@@ -1,14 +1,13 @@
 // Changing one block of rows: first whether it may be, then one part of the lent memory at a time.
-ghost use Rattle.std.specs.Prelude.{◌≡◌, ◌≤◌, true, false, cond, length, MatchOption};
+ghost use Rattle.std.specs.Prelude.{◌≡◌, true, false, MatchOption};
 ghost use Rattle.std.specs.List.{slice_get};
 ghost use Rattle.block.specs.Lists.{may_replace, may_mark};
 ghost use Rattle.rows.specs.Rows.{start_at};
-ghost use Rattle.rows.specs.Shown.{matched_blocks, marked, resized, written};
+ghost use Rattle.rows.specs.Shown.{marked, resized, written};
+ghost use Rattle.rows.specs.Sheets.{sheet_blocks};
 
-use crate::plan::Plan;
 use crate::row::State;
-use crate::shown::matches;
-use block::view::length_fits;
+use crate::sheet::Sheet;
 
 // Where the new data of a block go, and how long they are.
 #[derive(Clone, Copy, PartialEq, Eq, Debug)]
@@ -17,52 +16,41 @@ pub struct Room {
     pub length: u16,
 }
 
-// Whether the status of the block at a place may be set.
-pub fn may_mark(plan: &Plan, states: &[State], bytes: &[u8], place: usize) -> bool
-    ensures { result ≡ may_mark (slice_get (matched_blocks plan.now.rows.now states.now bytes.now) place) }
-{
-    let rows = plan.rows;
-    if !matches(plan, states, bytes) {
-        return false;
+impl Sheet<'_> {
+    // Whether the status of the block at a place may be set.
+    pub fn may_mark(&self, place: usize) -> bool
+        ensures { result ≡ may_mark (slice_get (sheet_blocks self.now) place) }
+    {
+        self.plan
+            .rows
+            .get(place)
+            .is_some_and(|row| row.keeper.may_change())
     }
-    if place >= rows.len() {
-        return false;
+
+    // The room for data of this length in the block at a place, if they may replace those it has.
+    pub fn room_for(&self, place: usize, length: usize) -> Option<Room>
+        ensures { MatchOption result (may_replace (slice_get (sheet_blocks self.now) place) «length» ≡ false) (λ m. (may_replace (slice_get (sheet_blocks self.now) place) «length» ≡ true) × (m.start ≡ start_at self.now.plan.rows.now place) × (m.length ≡ «length»)) }
+    {
+        let row = self.plan.rows.get(place)?;
+        if !row.keeper.may_change() || !row.fits(length) {
+            return None;
+        }
+        Some(Room {
+            start: row.start,
+            length: length as u16,
+        })
     }
-    let row = rows[place];
-    row.keeper.may_change()
 }
 
-// The room for data of this length in the block at a place, if they may replace those it has.
-pub fn room_for(
-    plan: &Plan,
-    states: &[State],
-    bytes: &[u8],
-    place: usize,
-    length: usize,
-) -> Option<Room>
-    ensures { MatchOption result (may_replace (slice_get (matched_blocks plan.now.rows.now states.now bytes.now) place) «length» ≡ false) (λ m. (may_replace (slice_get (matched_blocks plan.now.rows.now states.now bytes.now) place) «length» ≡ true) × (m.start ≡ start_at plan.now.rows.now place) × (m.length ≡ «length»)) }
-{
-    let rows = plan.rows;
-    if !may_mark(plan, states, bytes, place) {
-        return None;
-    }
-    let row = rows[place];
-    if !length_fits(row.attribute, row.most, length) {
-        return None;
-    }
-    Some(Room {
-        start: row.start,
-        length: length as u16,
-    })
-}
+// stays: mark and resize are two functions, since one that takes the change as a closure is longer than both. They write by
+// an index, since `get_mut` of a slice says nothing of what the slice ends as: tried, and the goals stay open.
 
 // Sets the status in one state.
 pub fn mark(states: &mut [State], place: usize, status: u16)
     ensures { states.new ≡ marked states.old place status }
 {
     if place < states.len() {
-        let State { length, status: _ } = states[place];
-        states[place] = State { status, length };
+        states[place].status = status;
     }
 }
 
@@ -71,8 +59,7 @@ pub fn resize(states: &mut [State], place: usize, length: u16)
     ensures { states.new ≡ resized states.old place length }
 {
     if place < states.len() {
-        let State { status, length: _ } = states[place];
-        states[place] = State { status, length };
+        states[place].length = length;
     }
 }
 

@@ -9,37 +9,14 @@ use block::idn::Idn;
 fn scan(rows: &[Row], idn: Idn) -> Option<usize>
     ensures { result ≡ place_in (map row_idn rows.now) idn.0 }
 {
-    for i in 0..rows.len() {
-        let row = rows[i];
-        if row.idn.0 == idn.0 {
-            return Some(i);
-        }
-    }
-    None
+    rows.iter().position(|row| row.idn == idn)
 }
 
 fn bisect(rows: &[Row], idn: Idn) -> Option<usize>
     requires { ascends (map row_idn rows.now) ≡ true }
     ensures { result ≡ place_in (map row_idn rows.now) idn.0 }
 {
-    let mut low = 0;
-    let mut high = rows.len();
-    while low < high {
-        let middle = low + (high - low) / 2;
-        let row = rows[middle];
-        if row.idn.0 < idn.0 {
-            low = middle + 1;
-        } else {
-            high = middle;
-        }
-    }
-    if low < rows.len() {
-        let row = rows[low];
-        if row.idn.0 == idn.0 {
-            return Some(low);
-        }
-    }
-    None
+    rows.binary_search_by_key(&idn, |row| row.idn).ok()
 }
 
 impl Plan<'_> {

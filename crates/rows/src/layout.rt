@@ -1,41 +1,23 @@
 // The check of rows: block rules, areas one after another, and whether the IDNs ascend.
-ghost use Rattle.std.specs.Prelude.{◌≡◌, ◌*◌, ◌≤◌, true, false, map, length, MatchOption};
-ghost use Rattle.block.specs.Lists.{most_blocks};
-ghost use Rattle.rows.specs.Rows.{area_of, row_kept, laid_from, size_of, ascends, row_idn, planned};
+ghost use Rattle.std.specs.Prelude.{◌≡◌, true, false, map, MatchOption};
+ghost use Rattle.rows.specs.Rows.{laid_out, size_of, ascends, row_idn, planned};
 
 use crate::plan::Plan;
 use crate::row::Row;
-use block::view::form_kept;
-
-// The bytes of a row's data area.
-fn area(row: &Row) -> usize
-    ensures { result ≡ area_of row.now }
-{
-    match row.attribute.length_code() {
-        Some(code) if code.is_list() => usize::from(row.most),
-        Some(code) => code.item(),
-        None => 0,
-    }
-}
-
-fn row_kept(row: &Row) -> bool
-    ensures { result ≡ row_kept row.now }
-{
-    form_kept(row.attribute, row.name, row.unit, row.limits, row.most)
-}
 
 // The bytes of all areas together, where the rows keep the rules.
 fn measure(rows: &[Row]) -> Option<usize>
-    requires { length rows.now ≤ most_blocks }
-    ensures { MatchOption result (laid_from 0 rows.now ≡ false) (λ n. (laid_from 0 rows.now ≡ true) × (n ≡ size_of rows.now)) }
+    ensures { MatchOption result (laid_out rows.now ≡ false) (λ n. (laid_out rows.now ≡ true) × (n ≡ size_of rows.now)) }
 {
-    let mut from: usize = 0;
-    for i in 0..rows.len() {
-        let row = rows[i];
-        if row.start != from || !row_kept(&row) {
+    if rows.len() > 510 {
+        return None;
+    }
+    let mut from = 0;
+    for row in rows {
+        if row.start != from || !row.keeps_rules() {
             return None;
         }
-        from += area(&row);
+        from += row.area();
     }
     Some(from)
 }
@@ -44,13 +26,7 @@ fn measure(rows: &[Row]) -> Option<usize>
 fn ascend(rows: &[Row]) -> bool
     ensures { result ≡ ascends (map row_idn rows.now) }
 {
-    for i in 1..rows.len() {
-        let (before, after) = (rows[i - 1], rows[i]);
-        if before.idn.0 >= after.idn.0 {
-            return false;
-        }
-    }
-    true
+    rows.is_sorted_by(|before, after| before.idn < after.idn)
 }
 
 impl<'r> Plan<'r> {
@@ -58,21 +34,17 @@ impl<'r> Plan<'r> {
     pub fn new(rows: &'r [Row<'r>]) -> Plan<'r>
         ensures { result.rows.now ≡ planned rows.now }
     {
-        if rows.len() <= 510 {
-            if let Some(size) = measure(rows) {
-                let ascending = ascend(rows);
-                return Plan {
-                    rows,
-                    size,
-                    ascending,
-                };
-            }
-        }
-        let none = &rows[0..0];
-        Plan {
-            rows: none,
-            size: 0,
-            ascending: true,
+        match measure(rows) {
+            Some(size) => Plan {
+                rows,
+                size,
+                ascending: ascend(rows),
+            },
+            None => Plan {
+                rows: &[],
+                size: 0,
+                ascending: true,
+            },
         }
     }
 }

@@ -6,4 +6,5 @@ mod finding;
 mod layout;
 pub mod plan;
 pub mod row;
+pub mod sheet;
 pub mod shown;

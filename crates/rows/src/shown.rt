@@ -1,42 +1,29 @@
-// Reading rows with their states and bytes, the same for a table and a catalogue.
-ghost use Rattle.std.specs.Prelude.{◌≡◌, ◌+◌, ◌<◌, ◌≤◌, length};
+// Reading the blocks of a sheet, each in constant time.
+ghost use Rattle.std.specs.Prelude.{◌≡◌, ◌+◌, ◌≤◌, ◌&&◌, [], length, if◌then◌else◌};
 ghost use Rattle.std.specs.List.{slice_get};
 ghost use Rattle.std.specs.Option.{option_map};
 ghost use Rattle.block.specs.Blocks.{seen};
 ghost use Rattle.block.specs.Lists.{place_of};
-ghost use Rattle.rows.specs.Rows.{size_of, row_kept};
-ghost use Rattle.rows.specs.Shown.{shown_length, block_of, blocks_of, states_fit, is_matched, matched_blocks, nobodys};
+ghost use Rattle.rows.specs.Shown.{shown_length, block_of, states_fit, is_matched, shown_blocks, row_blocks};
+ghost use Rattle.rows.specs.Sheets.{sheet_blocks};
 
 use crate::plan::Plan;
 use crate::row::{Row, State};
+use crate::sheet::Sheet;
 use block::attribute::LengthCode;
 use block::idn::Idn;
-use block::keeper::Keeper;
-use block::view::{View, length_fits};
-
-// Whether states and memory match the rows: one test of two lengths.
-pub(crate) fn matches(plan: &Plan, states: &[State], bytes: &[u8]) -> bool
-    ensures { result ≡ is_matched plan.now.rows.now states.now bytes.now }
-{
-    states.len() == plan.rows.len() && plan.size <= bytes.len()
-}
+use block::view::View;
 
 // Whether every row has a state, and the length in it fits.
 pub fn states_fit(plan: &Plan, states: &[State]) -> bool
     ensures { result ≡ states_fit plan.now.rows.now states.now }
 {
-    let rows = plan.rows;
-    if states.len() != rows.len() {
-        return false;
-    }
-    for i in 0..rows.len() {
-        let row = rows[i];
-        let state = states[i];
-        if !length_fits(row.attribute, row.most, usize::from(state.length)) {
-            return false;
-        }
-    }
-    true
+    states.len() == plan.rows.len()
+        && plan
+            .rows
+            .iter()
+            .zip(states)
+            .all(|(row, state)| row.fits(usize::from(state.length)))
 }
 
 // The length of a block's data.
@@ -44,7 +31,7 @@ fn shown_length(row: &Row, state: State) -> usize
     ensures { result ≡ shown_length row.now state }
 {
     let length = usize::from(state.length);
-    if length_fits(row.attribute, row.most, length) {
+    if row.fits(length) {
         return length;
     }
     match row.attribute.length_code() {
@@ -55,11 +42,11 @@ fn shown_length(row: &Row, state: State) -> usize
 }
 
 // One block, read in place.
-fn view<'v>(row: Row<'v>, state: State, bytes: &'v [u8]) -> View<'v>
-    requires { row.start + shown_length row state ≤ length bytes.now }
-    ensures { seen result ≡ block_of row.entry state bytes.now }
+fn view<'v>(row: &Row<'v>, state: State, bytes: &'v [u8]) -> View<'v>
+    requires { row.now.start + shown_length row.now state ≤ length bytes.now }
+    ensures { seen result ≡ block_of row.now state bytes.now }
 {
-    let end = row.start + shown_length(&row, state);
+    let end = row.start + shown_length(row, state);
     View {
         idn: row.idn,
         keeper: row.keeper,
@@ -73,70 +60,53 @@ fn view<'v>(row: Row<'v>, state: State, bytes: &'v [u8]) -> View<'v>
     }
 }
 
-// The block at a place, where states and memory match the rows.
-pub fn view_at<'v>(
-    plan: &'v Plan<'v>,
-    states: &'v [State],
-    bytes: &'v [u8],
-    place: usize,
-) -> Option<View<'v>>
-    ensures { option_map seen result ≡ slice_get (matched_blocks plan.now.rows.now states.now bytes.now) place }
-{
-    let rows = plan.rows;
-    if !matches(plan, states, bytes) {
-        return None;
+impl<'a> Sheet<'a> {
+    // States or bytes that do not match the rows mean no rows.
+    pub fn new(plan: &Plan<'a>, states: &'a [State], bytes: &'a [u8]) -> Sheet<'a>
+        ensures { sheet_blocks result ≡ row_blocks plan.now.rows.now states.now bytes.now }
+    {
+        Sheet::noted(plan, states, bytes, states_fit(plan, states))
     }
-    if place >= rows.len() {
-        return None;
+
+    // The same in constant time, where `fits` notes that the lengths in the states were found to fit.
+    pub fn noted(plan: &Plan<'a>, states: &'a [State], bytes: &'a [u8], fits: bool) -> Sheet<'a>
+        ensures blocks { sheet_blocks result ≡ shown_blocks fits plan.now.rows.now states.now bytes.now }
+        ensures rows { result.plan.rows.now ≡ (if fits && is_matched plan.now.rows.now states.now bytes.now then plan.now.rows.now else []) }
+    {
+        if fits && states.len() == plan.rows.len() && plan.size <= bytes.len() {
+            return Sheet {
+                plan: *plan,
+                states,
+                bytes,
+            };
+        }
+        Sheet {
+            plan: Plan::new(&[]),
+            states: &[],
+            bytes: &[],
+        }
     }
-    let row = rows[place];
-    let state = states[place];
-    Some(view(row, state, bytes))
-}
 
-// The same block, kept by nobody.
-fn disown<'v>(view: Option<View<'v>>) -> Option<View<'v>>
-    ensures { option_map seen result ≡ option_map nobodys (option_map seen view.entry) }
-{
-    match view {
-        Some(view) => Some(View {
-            keeper: Keeper::Nobody,
-            ..view
-        }),
-        None => None,
+    // How many blocks are shown.
+    pub fn count(&self) -> usize
+        ensures { result ≡ length (sheet_blocks self.now) }
+    {
+        self.plan.rows.len()
     }
-}
 
-// The block at a place, shown as kept by nobody.
-pub fn disowned_view_at<'v>(
-    plan: &'v Plan<'v>,
-    states: &'v [State],
-    bytes: &'v [u8],
-    place: usize,
-) -> Option<View<'v>>
-    ensures { option_map seen result ≡ option_map nobodys (slice_get (matched_blocks plan.now.rows.now states.now bytes.now) place) }
-{
-    disown(view_at(plan, states, bytes, place))
-}
-
-// How many blocks are shown.
-pub fn count(plan: &Plan, states: &[State], bytes: &[u8]) -> usize
-    ensures { result ≡ length (matched_blocks plan.now.rows.now states.now bytes.now) }
-{
-    if matches(plan, states, bytes) {
-        plan.rows.len()
-    } else {
-        0
+    // The first place of an IDN.
+    pub fn find(&self, idn: Idn) -> Option<usize>
+        ensures { result ≡ place_of (sheet_blocks self.now) idn.0 }
+    {
+        self.plan.find(idn)
     }
-}
 
-// The first place of an IDN.
-pub fn find(plan: &Plan, states: &[State], bytes: &[u8], idn: Idn) -> Option<usize>
-    ensures { result ≡ place_of (matched_blocks plan.now.rows.now states.now bytes.now) idn.0 }
-{
-    if matches(plan, states, bytes) {
-        plan.find(idn)
-    } else {
-        None
+    // The block at a place.
+    pub fn block(&self, place: usize) -> Option<View<'a>>
+        ensures { option_map seen result ≡ slice_get (sheet_blocks self.now) place }
+    {
+        let row = self.plan.rows.get(place)?;
+        let state = self.states.get(place)?;
+        Some(view(row, *state, self.bytes))
     }
 }

@@ -1,11 +1,5 @@
 -- Blocks that are shown as kept by nobody: the same places and parts, and none may change. Assumes nothing.
-use Rattle.std.proofs.Common.{◌≡◌, ℕ, zero, suc, Bool, true, false, cond, eqb, List, [], ◌∷◌, map, length, Some, None, Option, refl, ap, ◌∙◌}
-use Rattle.std.proofs.lemmas.List.{length-map}
-use Rattle.std.proofs.lemmas.Bool.{false≢true}
-use Rattle.rows.specs.declared.plan.Plan.{Plan}
-use Rattle.rows.specs.declared.row.State.{State}
-use Rattle.rows.specs.Shown.{matched_blocks}
-use Rattle.table.specs.Tables.{plan_rows, shown_blocks}
+use Rattle.std.proofs.Common.{◌≡◌, ℕ, zero, suc, false, cond, eqb, List, [], ◌∷◌, map, Some, None, Option, refl, ap, ◌∙◌}
 use Rattle.std.specs.List.{slice_get}
 use Rattle.std.specs.Option.{option_map}
 use Rattle.block.specs.Blocks.{Block}
@@ -34,19 +28,3 @@ never_replaced bs i n = ap (λ o. may_replace o n) (nth_nobodys bs i) ∙ none_r
 
 pub never_marked : (bs : List Block) (i : ℕ) → may_mark (slice_get (map nobodys bs) i) ≡ false
 never_marked bs i = ap may_mark (nth_nobodys bs i) ∙ none_marked (slice_get bs i)
-
--- a catalogue whose states fit shows each block of its rows as nobody's
-pub count_nobodys : (fits : Bool) (p : Plan) (ss : List State) (bytes : List ℕ) → fits ≡ true
-    → length (map nobodys (shown_blocks fits (plan_rows p) ss bytes)) ≡ length (matched_blocks (plan_rows p) ss bytes)
-count_nobodys true p ss bytes t = length-map (matched_blocks (plan_rows p) ss bytes) nobodys
-count_nobodys false p ss bytes t = absurd (false≢true t)
-
-pub place_disowned : (fits : Bool) (p : Plan) (ss : List State) (bytes : List ℕ) (n : ℕ) → fits ≡ true
-    → place_of (map nobodys (shown_blocks fits (plan_rows p) ss bytes)) n ≡ place_of (matched_blocks (plan_rows p) ss bytes) n
-place_disowned true p ss bytes n t = place-nobodys (matched_blocks (plan_rows p) ss bytes) n
-place_disowned false p ss bytes n t = absurd (false≢true t)
-
-pub nth_disowned : (fits : Bool) (p : Plan) (ss : List State) (bytes : List ℕ) (i : ℕ) → fits ≡ true
-    → slice_get (map nobodys (shown_blocks fits (plan_rows p) ss bytes)) i ≡ option_map nobodys (slice_get (matched_blocks (plan_rows p) ss bytes) i)
-nth_disowned true p ss bytes i t = nth_nobodys (matched_blocks (plan_rows p) ss bytes) i
-nth_disowned false p ss bytes i t = absurd (false≢true t)

@@ -1,24 +1,15 @@
 -- What a table over checked rows means when it is made, and after a change. Assumes nothing.
-use Rattle.std.proofs.Common.{◌≡◌, ℕ, Bool, true, false, List, length, drop, refl, ap, ◌∙◌, ⊎_elim, arith}
+use Rattle.std.proofs.Common.{◌≡◌, ℕ, Bool, true, false, cond, ◌&&◌, List, [], length, drop, refl, ap, ◌∙◌}
 use Rattle.std.specs.List.{slice_get}
-use Rattle.std.proofs.lemmas.Bool.{cases_Bool, le-leb, eq-eqb, and_from, false≢true}
-use Rattle.std.proofs.lemmas.Bool.Decides.{nat_tests}
-use Rattle.block.specs.Lists.{most_blocks, changed, with_content, with_status, may_replace, may_mark}
+use Rattle.std.proofs.lemmas.Bool.{cond-true, false≢true}
+use Rattle.block.specs.Lists.{changed, with_content, with_status, may_replace, may_mark}
 use Rattle.rows.specs.declared.plan.Plan.{Plan}
+use Rattle.rows.specs.declared.row.Row.{Row}
 use Rattle.rows.specs.declared.row.State.{State}
-use Rattle.rows.specs.Rows.{size_of, laid_out, start_at}
-use Rattle.rows.specs.Shown.{states_fit, matched_blocks, row_blocks, marked, resized, written}
-use Rattle.rows.proofs.Meaning.{states_as_many, matched_marked, matched_written, spare_kept}
-use Rattle.table.specs.Tables.{plan_rows, shown_blocks, Lent}
-
-pub made_means : (p : Plan) (ss : List State) (bytes : List ℕ) (fits : Bool) → fits ≡ states_fit (plan_rows p) ss
-    → shown_blocks fits (plan_rows p) ss bytes ≡ row_blocks (plan_rows p) ss bytes
-made_means p ss bytes fits e =
-    let laid : laid_out (plan_rows p) ≡ true = and_from _ _ (le-leb (length (plan_rows p)) most_blocks p.few) p.laid in
-    ⊎_elim
-    (λ yes'. let many = eq-eqb (length ss) (length (plan_rows p)) (states_as_many (plan_rows p) ss yes') in grind (arith, nat_tests))
-    (λ no'. grind (arith, nat_tests))
-    (cases_Bool (states_fit (plan_rows p) ss))
+use Rattle.rows.specs.Rows.{size_of, start_at}
+use Rattle.rows.specs.Shown.{is_matched, matched_blocks, shown_blocks, marked, resized, written}
+use Rattle.rows.proofs.Meaning.{mark_parts, replace_marks, matched_marked, matched_written, spare_kept}
+use Rattle.table.specs.Tables.{plan_rows}
 
 -- the blocks after a change of one status
 pub shown_marked : (fits : Bool) (p : Plan) (ss after : List State) (d : List ℕ) (i word : ℕ) → after ≡ marked ss i word
@@ -27,6 +18,15 @@ pub shown_marked : (fits : Bool) (p : Plan) (ss after : List State) (d : List �
 shown_marked true p ss after d i word e may =
     ap (λ l. matched_blocks (plan_rows p) l d) e ∙ matched_marked (plan_rows p) ss d i word may
 shown_marked false p ss after d i word e may = refl
+
+-- where data may be replaced, the sheet of a table has the table's rows
+pub start_same : (fits : Bool) (p : Plan) (rs : List Row) (ss : List State) (d : List ℕ) (i n : ℕ)
+    → rs ≡ cond (fits && is_matched (plan_rows p) ss d) (plan_rows p) []
+    → may_replace (slice_get (shown_blocks fits (plan_rows p) ss d) i) n ≡ true → start_at rs i ≡ start_at (plan_rows p) i
+start_same true p rs ss d i n e may =
+    let o = slice_get (matched_blocks (plan_rows p) ss d) i in
+    ap (λ l. start_at l i) (e ∙ cond-true _ (plan_rows p) [] (mark_parts (plan_rows p) ss d i (replace_marks o n may)).0)
+start_same false p rs ss d i n e may = absurd (false≢true may)
 
 -- the blocks after new data were written at their place
 pub shown_written : (fits : Bool) (p : Plan) (ss after : List State) (d bytes src : List ℕ) (i start n : ℕ)
@@ -47,8 +47,3 @@ pub shown_spare : (fits : Bool) (p : Plan) (ss : List State) (d bytes src : List
 shown_spare true p ss d bytes src i start f g may =
     ap (drop (size_of (plan_rows p))) (f ∙ ap (λ k. written d k src) g) ∙ spare_kept (plan_rows p) ss d src i p.laid may
 shown_spare false p ss d bytes src i start f g may = absurd (false≢true may)
-
--- all that a table holds, part by part
-pub lent_is : (l m : Lent) → l.plan ≡ m.plan → l.fits ≡ m.fits → l.state_name ≡ m.state_name → l.byte_name ≡ m.byte_name
-    → l.states ≡ m.states → l.bytes ≡ m.bytes → l ≡ m
-lent_is l m p f s b ss bs = λ i. record { plan = p i; fits = f i; state_name = s i; byte_name = b i; states = ss i; bytes = bs i }

@@ -1,7 +1,8 @@
 -- What a table and a catalogue show as stores, and the bounds that they keep. Assumes nothing.
-use Rattle.std.specs.Prelude.{◌≡◌, ℕ, suc, ◌≤◌, Bool, true, cond, List, [], ◌∷◌, map, length, drop, refl}
-use Rattle.std.proofs.Common.{ap, arith}
+use Rattle.std.specs.Prelude.{◌≡◌, ℕ, ◌≤◌, Bool, true, List, [], ◌∷◌, map, length, drop, refl}
+use Rattle.std.proofs.Common.{arith}
 use Rattle.std.specs.Borrow.{GName}
+use Rattle.std.proofs.lemmas.List.{length-map}
 use Rattle.std.proofs.lemmas.Bool.{cond_both, and_parts, and_from}
 use Rattle.block.specs.Blocks.{Block, block_kept}
 use Rattle.block.specs.Lists.{most_blocks, all_kept}
@@ -9,7 +10,7 @@ use Rattle.rows.specs.declared.plan.Plan.{Plan}
 use Rattle.rows.specs.declared.row.Row.{Row}
 use Rattle.rows.specs.declared.row.State.{State}
 use Rattle.rows.specs.Rows.{size_of, start_at}
-use Rattle.rows.specs.Shown.{matched_blocks, nobodys, marked, resized, written}
+use Rattle.rows.specs.Shown.{matched_blocks, shown_blocks, nobodys, marked, resized, written}
 use Rattle.rows.proofs.Meaning.{matched_few, matched_kept}
 use Rattle.table.specs.declared.table.Table.{Table}
 use Rattle.table.specs.declared.catalogue.Catalogue.{Catalogue}
@@ -17,10 +18,6 @@ use Rattle.table.specs.declared.catalogue.Catalogue.{Catalogue}
 -- the rows of a plan
 abbrev pub plan_rows : Plan → List Row
 plan_rows p = p.rows.now
-
--- the blocks of checked rows; `fits` notes that the lengths in the states were found to fit
-abbrev pub shown_blocks : Bool → List Row → List State → List ℕ → List Block
-shown_blocks fits rs ss bytes = cond fits (matched_blocks rs ss bytes) []
 
 -- the blocks of a table
 abbrev pub table_shown : Table → List Block
@@ -77,11 +74,7 @@ lent_replaced l place bytes = record { plan = l.plan; fits = l.fits; state_name 
 abbrev pub lent_marked : Lent → ℕ → ℕ → Lent
 lent_marked l place status = record { plan = l.plan; fits = l.fits; state_name = l.state_name; byte_name = l.byte_name; states = marked l.states place status; bytes = l.bytes }
 
--- what changes no part but the keeper keeps count and block rules
-length-nobodys : (bs : List Block) → length (map nobodys bs) ≡ length bs
-length-nobodys [] = refl
-length-nobodys (b ∷ bs) = ap suc (length-nobodys bs)
-
+-- what changes no part but the keeper keeps the block rules
 kept_nobodys : (bs : List Block) → all_kept bs ≡ true → all_kept (map nobodys bs) ≡ true
 kept_nobodys [] t = t
 kept_nobodys (b ∷ bs) t =
@@ -90,7 +83,7 @@ kept_nobodys (b ∷ bs) t =
 
 pub catalogue_few : (t : Catalogue) → length (catalogue_shown t) ≤ most_blocks
 catalogue_few t =
-    let e = length-nobodys (shown_blocks t.fits (plan_rows t.plan.now) t.states.now t.bytes.now) in
+    let e = length-map (shown_blocks t.fits (plan_rows t.plan.now) t.states.now t.bytes.now) nobodys in
     omega (arith, e, shown_few t.fits t.plan.now t.states.now t.bytes.now)
 
 pub catalogue_kept : (t : Catalogue) → all_kept (catalogue_shown t) ≡ true

@@ -1,15 +1,20 @@
 // A catalogue: a read-only store over the caller's memory; nobody keeps its blocks.
 ghost use Rattle.std.specs.Prelude.{◌≡◌, map};
+ghost use Rattle.rows.specs.Sheets.{sheet_blocks};
 ghost use Rattle.rows.specs.Shown.{row_blocks, nobodys};
 ghost use Rattle.table.specs.Tables.{plan_rows, catalogue_shown, catalogue_few, catalogue_kept};
 
 use block::idn::Idn;
+use block::keeper::Keeper;
 use block::view::View;
 use rows::plan::Plan;
 use rows::row::State;
-use rows::shown;
+use rows::sheet::Sheet;
+use rows::shown::states_fit;
 use store::store::Store;
 
+// stays: its parts and not the sheet that they make. A struct with an invariant, as a sheet is, can stand by value in no store
+// that is joined to a table, whose memory is lent for writing: tried, and the checker covers no call at such a type.
 #[derive(Clone, Copy)]
 pub struct Catalogue<'a> {
     pub(crate) plan: &'a Plan<'a>,
@@ -24,13 +29,20 @@ impl<'a> Catalogue<'a> {
     pub fn new(plan: &'a Plan<'a>, states: &'a [State], bytes: &'a [u8]) -> Catalogue<'a>
         ensures { catalogue_shown result ≡ map nobodys (row_blocks (plan_rows plan.now) states.now bytes.now) }
     {
-        let fits = shown::states_fit(plan, states);
+        let fits = states_fit(plan, states);
         Catalogue {
             plan,
             states,
             bytes,
             fits,
         }
+    }
+
+    // The catalogue as it is read: no rows if states or bytes do not match them.
+    fn sheet(&self) -> Sheet<'a>
+        ensures { map nobodys (sheet_blocks result) ≡ catalogue_shown self.now }
+    {
+        Sheet::noted(self.plan, self.states, self.bytes, self.fits)
     }
 }
 
@@ -46,27 +58,18 @@ impl<'a> Store for Catalogue<'a> {
     ghost sound = { catalogue_kept };
 
     fn count(&self) -> usize {
-        if self.fits {
-            shown::count(self.plan, self.states, self.bytes)
-        } else {
-            0
-        }
+        self.sheet().count()
     }
 
     fn find(&self, idn: Idn) -> Option<usize> {
-        if self.fits {
-            shown::find(self.plan, self.states, self.bytes, idn)
-        } else {
-            None
-        }
+        self.sheet().find(idn)
     }
 
     fn block(&self, place: usize) -> Option<View<'_>> {
-        if self.fits {
-            shown::disowned_view_at(self.plan, self.states, self.bytes, place)
-        } else {
-            None
-        }
+        self.sheet().block(place).map(|view| View {
+            keeper: Keeper::Nobody,
+            ..view
+        })
     }
 
     fn replace(&mut self, _place: usize, _bytes: &[u8]) -> bool {

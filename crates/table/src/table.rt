@@ -1,18 +1,22 @@
 // A table: a store over the caller's memory, whose keepers may change their blocks.
-ghost use Rattle.std.specs.Prelude.{◌≡◌, true, false, length, if◌then◌else◌, MatchOption};
+ghost use Rattle.std.specs.Prelude.{◌≡◌, ◌&&◌, [], length, if◌then◌else◌};
 ghost use Rattle.std.specs.List.{slice_get};
 ghost use Rattle.block.specs.Lists.{changed, with_content, with_status, may_replace, may_mark};
-ghost use Rattle.rows.specs.Rows.{start_at};
-ghost use Rattle.rows.specs.Shown.{row_blocks, states_fit};
+ghost use Rattle.rows.specs.Sheets.{sheet_blocks};
+ghost use Rattle.rows.specs.Shown.{row_blocks, states_fit, is_matched};
 ghost use Rattle.table.specs.Tables.{plan_rows, table_shown, table_few, table_kept, TableRest, table_rest, lent_to, lent_replaced, lent_marked};
 
 use block::idn::Idn;
 use block::view::View;
+use rows::change;
 use rows::plan::Plan;
 use rows::row::State;
-use rows::{change, shown};
+use rows::sheet::Sheet;
+use rows::shown::states_fit;
 use store::store::Store;
 
+// stays: rows, states and bytes lie beside one another, since the caller lends the memory and a drive has no heap; and `fits`
+// is a flag, since a struct over memory that is lent for writing can hold no invariant about it and still be joined by value.
 #[derive(Drop)]
 pub struct Table<'p, 'r, 'a> {
     pub(crate) plan: &'p Plan<'r>,
@@ -32,7 +36,7 @@ impl<'p, 'r, 'a> Table<'p, 'r, 'a> {
         ensures blocks { table_shown result ≡ row_blocks (plan_rows plan.now) states.old bytes.old }
         ensures lent { lent_to result ≡ record { plan = plan.entry.now; fits = states_fit (plan_rows plan.entry.now) states.old; state_name = states.entry.ghost_name; byte_name = bytes.entry.ghost_name; states = states.old; bytes = bytes.old } }
     {
-        let fits = shown::states_fit(plan, states);
+        let fits = states_fit(plan, states);
         Table {
             plan,
             states,
@@ -41,22 +45,12 @@ impl<'p, 'r, 'a> Table<'p, 'r, 'a> {
         }
     }
 
-    // The room for data of this length in the block at a place, if they may replace those it has.
-    fn room_for(&self, place: usize, length: usize) -> Option<change::Room>
-        ensures { MatchOption result (may_replace (slice_get (table_shown self.now) place) «length» ≡ false) (λ m. (may_replace (slice_get (table_shown self.now) place) «length» ≡ true) × (m.start ≡ start_at (plan_rows self.now.plan.now) place) × (m.length ≡ «length»)) }
+    // The table as it is read: no rows if states or bytes do not match them.
+    fn sheet(&self) -> Sheet<'_>
+        ensures blocks { sheet_blocks result ≡ table_shown self.now }
+        ensures rows { result.plan.rows.now ≡ (if self.now.fits && is_matched (plan_rows self.now.plan.now) self.now.states.now self.now.bytes.now then plan_rows self.now.plan.now else []) }
     {
-        if self.fits {
-            change::room_for(self.plan, self.states, self.bytes, place, length)
-        } else {
-            None
-        }
-    }
-
-    // Whether the status of the block at a place may be set.
-    fn may_mark(&self, place: usize) -> bool
-        ensures { result ≡ may_mark (slice_get (table_shown self.now) place) }
-    {
-        self.fits && change::may_mark(self.plan, self.states, self.bytes, place)
+        Sheet::noted(self.plan, self.states, self.bytes, self.fits)
     }
 }
 
@@ -72,27 +66,15 @@ impl<'p, 'r, 'a> Store for Table<'p, 'r, 'a> {
     ghost sound = { table_kept };
 
     fn count(&self) -> usize {
-        if self.fits {
-            shown::count(self.plan, self.states, self.bytes)
-        } else {
-            0
-        }
+        self.sheet().count()
     }
 
     fn find(&self, idn: Idn) -> Option<usize> {
-        if self.fits {
-            shown::find(self.plan, self.states, self.bytes, idn)
-        } else {
-            None
-        }
+        self.sheet().find(idn)
     }
 
     fn block(&self, place: usize) -> Option<View<'_>> {
-        if self.fits {
-            shown::view_at(self.plan, self.states, self.bytes, place)
-        } else {
-            None
-        }
+        self.sheet().block(place)
     }
 
     fn replace(&mut self, place: usize, bytes: &[u8]) -> bool
@@ -101,7 +83,7 @@ impl<'p, 'r, 'a> Store for Table<'p, 'r, 'a> {
         ensures rest { table_rest self.new ≡ table_rest self.old }
         ensures lent { lent_to self.new ≡ (if result then lent_replaced (lent_to self.old) place bytes.now else lent_to self.old) }
     {
-        let Some(room) = self.room_for(place, bytes.len()) else {
+        let Some(room) = self.sheet().room_for(place, bytes.len()) else {
             return false;
         };
         change::write(self.bytes, room.start, bytes);
@@ -115,7 +97,7 @@ impl<'p, 'r, 'a> Store for Table<'p, 'r, 'a> {
         ensures rest { table_rest self.new ≡ table_rest self.old }
         ensures lent { lent_to self.new ≡ (if result then lent_marked (lent_to self.old) place status else lent_to self.old) }
     {
-        if !self.may_mark(place) {
+        if !self.sheet().may_mark(place) {
             return false;
         }
         change::mark(self.states, place, status);

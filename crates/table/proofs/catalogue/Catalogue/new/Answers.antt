@@ -1,6 +1,6 @@
 use Rattle.std.proofs.Common.{map, ap}
 use Rattle.rows.specs.Shown.{nobodys}
-use Rattle.table.proofs.Making.{made_means}
+use Rattle.rows.proofs.Sheets.{made_means}
 use Rattle.table.proofs.catalogue.Catalogue.new.Goals as goal
 
 pub returns : goal.returns

@@ -1,17 +1,11 @@
-use Rattle.std.proofs.Common.{◌≡◌, true, sym, refl}
+use Rattle.std.proofs.Common.{sym, ap, ◌∙◌}
 use Rattle.std.specs.List.{slice_get}
 use Rattle.block.specs.Lists.{may_mark}
-use Rattle.table.specs.Tables.{table_shown}
-use Rattle.table.proofs.Making.{shown_marked, lent_is}
+use Rattle.table.proofs.Making.{shown_marked}
 use Rattle.table.proofs.table.TableStore.set_status.Goals as goal
 
-pub returns : goal.returns
-returns c =
+pub returns-clause-after : goal.returns-clause-after
+returns-clause-after c =
     let t = c.args.self.now in
-    let may : may_mark (slice_get (table_shown t) c.args.place) ≡ true = sym c.if-not-may_mark.ensures in
-    record {
-      value = sym may;
-      after = shown_marked t.fits t.plan.now t.states.now c.mark.new.states t.bytes.now c.args.place c.args.status c.mark.ensures may;
-      rest = refl;
-      lent = lent_is _ _ refl refl refl refl c.mark.ensures refl;
-    }
+    let may = ap (λ bs. may_mark (slice_get bs c.args.place)) (sym c.sheet.ensures.blocks) ∙ sym c.if-not-may_mark.ensures in
+    shown_marked t.fits t.plan.now t.states.now c.mark.new.states t.bytes.now c.args.place c.args.status c.mark.ensures may
