@@ -1,7 +1,6 @@
 -- No element of a block that keeps the rules has more than 512 words. Assumes nothing.
 use Rattle.std.proofs.Common.{◌≡◌, ℕ, ◌≤◌, Bool, true, eqb, leb, List, [], ◌∷◌, length, Some, None, Ok, Option, refl, arith}
 use Rattle.std.specs.List.{slice_get}
-use Rattle.std.specs.Option.{option_map}
 use Rattle.block.specs.Lists.{all_kept}
 use Rattle.block.proofs.Lists.{nth_kept}
 use Rattle.std.proofs.lemmas.Bool.{and_parts, leb-true, cond_both}
@@ -80,12 +79,7 @@ word_few (Some sh) k w last few e =
 pub read_few : (b : Block) (e k w : ℕ) (last : Bool) → block_kept b ≡ true → read_word (Some b) e k last ≡ Ok w → k ≤ 512
 read_few b e k w last kept r = word_few (shape_of b e) k w last (shape_few b e kept) r
 
-found_few : (bs : List Block) (i e k w : ℕ) (last : Bool) (o : Option Block) → slice_get bs i ≡ o → all_kept bs ≡ true
-    → Some (Ok w) ≡ option_map (λ b. read_word (Some b) e k last) o → k ≤ 512
-found_few bs i e k w last None at kept r = absurd (let z : ◌≡◌ {A = ℕ} 0 1 = cc in omega arith)
-found_few bs i e k w last (Some b) at kept r = read_few b e k w last (nth_kept bs i b kept at) (let z : read_word (Some b) e k last ≡ Ok w = cc in z)
-
 -- the same of a word read at a place of a store
-pub place_few : (bs : List Block) (i e k w : ℕ) (last : Bool) → all_kept bs ≡ true
-    → Some (Ok w) ≡ option_map (λ b. read_word (Some b) e k last) (slice_get bs i) → k ≤ 512
-place_few bs i e k w last kept r = found_few bs i e k w last (slice_get bs i) refl kept r
+pub place_few : (bs : List Block) (i e k w : ℕ) (last : Bool) (b : Block) → all_kept bs ≡ true → slice_get bs i ≡ Some b
+    → read_word (Some b) e k last ≡ Ok w → k ≤ 512
+place_few bs i e k w last b kept at r = read_few b e k w last (nth_kept bs i b kept at) r

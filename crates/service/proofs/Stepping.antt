@@ -1,12 +1,11 @@
--- A step on an element that is only to be read. Assumes nothing.
+-- A step on an element from 2 to 6. Assumes nothing.
 use Rattle.std.proofs.Common.{◌≡◌, ℕ, Bool, true, false, Some, Option, ap, ◌∙◌}
 use Rattle.std.specs.List.{slice_get}
 use Rattle.block.specs.declared.idn.Idn.{Idn}
-use Rattle.channel.specs.Controls.{handshake, is_write, is_last, element_of, element_named}
 use Rattle.channel.specs.declared.control.Element.{Element}
 use Rattle.channel.specs.declared.control.Element.TheVariants.{Closing, Number, Name, Attribute, Unit, Lower, Upper, Content}
 use Rattle.service.specs.States.{State}
-use Rattle.service.specs.Steps.{with_block, refusing_step, step_on, step}
+use Rattle.service.specs.Steps.{with_block, read_step, refusing_step, step_on}
 
 -- elements 2 to 6
 abbrev pub is_part : Element → Bool
@@ -19,20 +18,45 @@ is_part Lower = true
 is_part Upper = true
 is_part Content = false
 
-module _ (phase : ℕ) (out : Option Idn) (s : State) (ahs last : Bool) (info place : ℕ) (open' : s.link.place ≡ Some place) where
-  pub refused_on : (e : Element) → is_part e ≡ true
-      → with_block s ahs (slice_get s.blocks place) (refusing_step s ahs e) ≡ step_on phase out s ahs e true last info
-  refused_on Closing p = absurd (cc)
-  refused_on Number p = absurd (cc)
-  refused_on Name p = rw open'
-  refused_on Attribute p = rw open'
-  refused_on Unit p = rw open'
-  refused_on Lower p = rw open'
-  refused_on Upper p = rw open'
-  refused_on Content p = absurd (cc)
+-- elements 2 to 7
+abbrev pub is_read : Element → Bool
+is_read Closing = false
+is_read Number = false
+is_read Name = true
+is_read Attribute = true
+is_read Unit = true
+is_read Lower = true
+is_read Upper = true
+is_read Content = true
 
--- the same by what the control word says
-pub on_control : (phase : ℕ) (out : Option Idn) (s : State) (ahs write last : Bool) (e : Element) (control info : ℕ)
-    → ahs ≡ handshake control → write ≡ is_write control → last ≡ is_last control → e ≡ element_named (element_of control)
-    → step_on phase out s ahs e write last info ≡ step phase out s control info
-on_control phase out s ahs write last e control info ea ew el ee = rw (ea, ew, el, ee)
+module _ (phase : ℕ) (out : Option Idn) (s : State) (ahs : Bool) (place info : ℕ) (open' : s.link.place ≡ Some place) where
+  written_on : (e : Element) (last : Bool) → is_part e ≡ true
+      → with_block s ahs (slice_get s.blocks place) (refusing_step s ahs e) ≡ step_on phase out s ahs e true last info
+  written_on Closing last p = absurd (cc)
+  written_on Number last p = absurd (cc)
+  written_on Name last p = rw open'
+  written_on Attribute last p = rw open'
+  written_on Unit last p = rw open'
+  written_on Lower last p = rw open'
+  written_on Upper last p = rw open'
+  written_on Content last p = absurd (cc)
+
+  read_on : (e : Element) (last : Bool) → is_read e ≡ true
+      → with_block s ahs (slice_get s.blocks place) (λ b. read_step s ahs e b last) ≡ step_on phase out s ahs e false last info
+  read_on Closing last p = absurd (cc)
+  read_on Number last p = absurd (cc)
+  read_on Name last p = rw open'
+  read_on Attribute last p = rw open'
+  read_on Unit last p = rw open'
+  read_on Lower last p = rw open'
+  read_on Upper last p = rw open'
+  read_on Content last p = rw open'
+
+  -- the same, where the control word says that the step writes
+  pub refused_on : (e e' : Element) (write last last' : Bool) → is_part e ≡ true → e ≡ e' → true ≡ write → last ≡ last'
+      → with_block s ahs (slice_get s.blocks place) (refusing_step s ahs e) ≡ step_on phase out s ahs e' write last' info
+  refused_on e e' write last last' p ee ew el = rw (← ee, ← ew, ← el) (written_on e last p)
+
+  pub taken_on : (e e' : Element) (write last last' : Bool) → is_read e ≡ true → e ≡ e' → false ≡ write → last ≡ last'
+      → with_block s ahs (slice_get s.blocks place) (λ b. read_step s ahs e b last) ≡ step_on phase out s ahs e' write last' info
+  taken_on e e' write last last' p ee ew el = rw (← ee, ← ew, ← el) (read_on e last p)

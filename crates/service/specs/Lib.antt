@@ -2,4 +2,5 @@ pub mod Words
 pub mod Changes
 pub mod Names
 pub mod States
+pub mod Replies
 pub mod Steps

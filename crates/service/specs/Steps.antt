@@ -190,12 +190,16 @@ opening_step s ahs info =
       | Some place ↦ ended s.blocks s.mark ahs (Some place) false 0
     ]
 
+-- reading element 1: the data status
+abbrev pub status_step : State → Bool → Block → State
+status_step s ahs b = ended s.blocks s.mark ahs s.link.place false b.status
+
 -- element 1: writing opens, reading gives the data status
 abbrev pub number_step : State → Bool → Bool → Bool → ℕ → State
 number_step s ahs write last info =
     cond write
     (cond last (opening_step s ahs info) (ended s.blocks s.mark ahs s.link.place true (code_of 1 Misused)))
-    (with_open s ahs s.link.place (λ place b. ended s.blocks s.mark ahs s.link.place false b.status))
+    (with_open s ahs s.link.place (λ place b. status_step s ahs b))
 
 -- a step that writes an element from 2 to 6: they are only to be read
 abbrev pub refusing_step : State → Bool → Element → Block → State

@@ -1,11 +1,13 @@
 // What the channel holds: the handshake, the open block, a transfer and the last answer.
 ghost use Rattle.std.specs.Prelude.{◌≡◌};
-ghost use Rattle.service.specs.States.{info_of};
+ghost use Rattle.channel.specs.Controls.{element_number};
+ghost use Rattle.service.specs.States.{info_of, goes_on};
 
 use block::attribute::Attribute;
 use block::idn::Idn;
 use block::keeper::Keeper;
 use block::limits::Limits;
+use block::phase::Phase;
 use channel::control::Element;
 use channel::fault::Code;
 
@@ -15,6 +17,15 @@ pub struct Transfer {
     pub element: Element,
     pub write: bool,
     pub count: u16,
+}
+
+impl Transfer {
+    // Whether it goes on with this element and direction.
+    pub(crate) fn is_on(self, element: Element, write: bool) -> bool
+        ensures { result ≡ goes_on (Some self) (element_number element) write }
+    {
+        self.element == element && self.write == write
+    }
 }
 
 #[derive(Clone, Copy, PartialEq, Eq, Debug)]
@@ -44,6 +55,35 @@ impl Link {
             Err(code) => code.number(),
         }
     }
+}
+
+// What a step comes to: the word for the master, and the transfer that goes on after it.
+#[derive(Clone, Copy, PartialEq, Eq, Debug)]
+pub(crate) struct Reply {
+    pub(crate) word: u16,
+    pub(crate) goes_on: Option<Transfer>,
+}
+
+impl Reply {
+    // The answer 0, which ends what was under way.
+    pub(crate) const DONE: Reply = Reply {
+        word: 0,
+        goes_on: None,
+    };
+}
+
+// What the drive tells the channel: its phase, and the command for which an order is out.
+#[derive(Clone, Copy, PartialEq, Eq, Debug)]
+pub(crate) struct Standing {
+    pub(crate) phase: Phase,
+    pub(crate) out: Option<Idn>,
+}
+
+// The block that is written, by its place in the store.
+#[derive(Clone, Copy, PartialEq, Eq, Debug)]
+pub(crate) struct Target {
+    pub(crate) place: usize,
+    pub(crate) head: Head,
 }
 
 // What a write needs to know of a block.

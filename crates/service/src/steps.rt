@@ -1,119 +1,132 @@
 // One step of the service channel.
-ghost use Rattle.std.specs.Prelude.{◌≡◌, true, false, Some};
+ghost use Rattle.std.specs.Prelude.{◌≡◌, false, Err};
 ghost use Rattle.std.specs.List.{slice_get};
 ghost use Rattle.std.specs.Option.{option_map};
-ghost use Rattle.std.specs.Result.{is_err};
+ghost use Rattle.block.specs.Blocks.{seen};
 ghost use Rattle.block.specs.Phases.{phase_number};
-ghost use Rattle.channel.specs.Codes.{code_of};
-ghost use Rattle.channel.specs.Controls.{element_number};
+ghost use Rattle.channel.specs.Controls.{is_write, is_last, element_of, element_number, element_named};
 ghost use Rattle.channel.specs.Layouts.{shape_of};
-ghost use Rattle.service.specs.States.{viewed, info_of, head_of, ended, next_word};
-ghost use Rattle.service.specs.Steps.{opening_step, with_block, read_word, read_step, write_refusal, refusing_step, step};
+ghost use Rattle.service.specs.Replies.{replied};
+ghost use Rattle.service.specs.States.{viewed, head_of, next_word};
+ghost use Rattle.service.specs.Steps.{opening_step, closing_step, with_block, read_word, read_step, write_refusal, refusing_step, status_step, step_on, step};
 
-use crate::link::{Head, Link, Transfer};
+use crate::link::{Head, Reply, Standing, Transfer};
 use crate::service::Service;
 use block::idn::Idn;
 use block::phase::Phase;
+use block::view::View;
 use channel::code::Digit;
 use channel::control::{Control, Element};
 use channel::fault::Code;
-use channel::layout::{layout_of, read_fault};
+use channel::layout::{check_read, layout_of};
 use store::store::Store;
 
+// No block is open.
+pub(crate) const NOT_OPEN: Code = Code {
+    element: Element::Closing,
+    digit: Digit::Missing,
+};
+
+fn refuse(element: Element, digit: Digit) -> Result<Reply, Code>
+    ensures { result ≡ Err (record { element = element; digit = digit }) }
+{
+    Err(Code { element, digit })
+}
+
+// A word that a step reads of a block, or what is wrong with it.
+fn read_word(view: View<'_>, element: Element, k: usize, last: bool) -> Result<u16, Digit>
+    ensures { result ≡ read_word (Some (seen view.entry)) (element_number element) k last }
+{
+    let layout = layout_of(view, element).ok_or(Digit::Missing)?;
+    check_read(layout.word_count(), k, last)?;
+    Ok(layout.word_at(k))
+}
+
+// What is wrong with writing an element from 2 to 6 of a block: they are only to be read.
+fn write_refusal(view: View<'_>, element: Element) -> Digit
+    ensures { result ≡ write_refusal (shape_of (seen view.entry) (element_number element)) }
+{
+    match layout_of(view, element) {
+        Some(_) => Digit::ReadOnly,
+        None => Digit::Missing,
+    }
+}
+
+// The number of the next word of a transfer on this element in this direction.
+pub(crate) fn next_word(transfer: Option<Transfer>, element: Element, write: bool) -> usize
+    ensures { result ≡ next_word transfer (element_number element) write }
+{
+    match transfer {
+        Some(t) if t.is_on(element, write) => usize::from(t.count) + 1,
+        _ => 1,
+    }
+}
+
 impl<S: Store> Service<S> {
-    // Ends or drops a transfer with an answer; none of its words is left.
-    pub(crate) fn end(&mut self, ahs: bool, place: Option<usize>, answer: Result<u16, Code>)
-        ensures { viewed S.Store.blocks self.new ≡ ended (S.Store.blocks self.old.store) self.old.mark ahs place (is_err answer) (info_of answer) }
+    // Ends or drops a transfer, or lets it go on; words are kept only while a write goes on.
+    fn end(&mut self, reply: Result<Reply, Code>)
+        ensures { viewed S.Store.blocks self.new ≡ replied (viewed S.Store.blocks self.old) reply }
     {
-        self.link = Link {
-            ahs,
-            place,
-            transfer: None,
-            answer,
-        };
-        self.kept.clear();
+        self.link.transfer = reply.ok().and_then(|reply| reply.goes_on);
+        self.link.answer = reply.map(|reply| reply.word);
+        if !self.link.transfer.is_some_and(|transfer| transfer.write) {
+            self.kept.clear();
+        }
     }
 
-    // Answers an error; the open block stays open.
-    pub(crate) fn fail(&mut self, ahs: bool, element: Element, digit: Digit)
-        ensures { viewed S.Store.blocks self.new ≡ ended (S.Store.blocks self.old.store) self.old.mark ahs self.old.link.place true (code_of (element_number element) digit) }
+    // Closes the channel.
+    fn close(&mut self) -> Result<Reply, Code>
+        ensures { replied (viewed S.Store.blocks self.new) result ≡ closing_step (viewed S.Store.blocks self.old) self.old.link.ahs false }
     {
-        let place = self.link.place;
-        self.end(ahs, place, Err(Code { element, digit }));
+        self.link.place = None;
+        Ok(Reply::DONE)
     }
 
     // Opens the block of an IDN; an IDN that is not in the store closes the channel.
-    fn open_block(&mut self, ahs: bool, idn: Idn)
-        ensures { viewed S.Store.blocks self.new ≡ opening_step (viewed S.Store.blocks self.old) ahs idn.0 }
+    fn open(&mut self, idn: Idn) -> Result<Reply, Code>
+        ensures { replied (viewed S.Store.blocks self.new) result ≡ opening_step (viewed S.Store.blocks self.old) self.old.link.ahs idn.0 }
     {
-        let Some(place) = self.store.find(idn) else {
-            let unknown = Code {
-                element: Element::Number,
-                digit: Digit::Missing,
-            };
-            self.end(ahs, None, Err(unknown));
-            return;
-        };
-        self.end(ahs, Some(place), Ok(0));
-    }
-
-    // The word that a step reads of the block at a place, or what is wrong with it.
-    fn read_word(
-        &self,
-        place: usize,
-        element: Element,
-        k: usize,
-        last: bool,
-    ) -> Option<Result<u16, Digit>>
-        ensures { result ≡ option_map (λ b. read_word (Some b) (element_number element) k last) (slice_get (S.Store.blocks self.now.store) place) }
-    {
-        let view = self.store.block(place)?;
-        let Some(layout) = layout_of(view, element) else {
-            return Some(Err(Digit::Missing));
-        };
-        if let Some(digit) = read_fault(layout.word_count(), k, last) {
-            return Some(Err(digit));
+        let found = self.store.find(idn);
+        self.link.place = found;
+        match found {
+            Some(_) => Ok(Reply::DONE),
+            None => refuse(Element::Number, Digit::Missing),
         }
-        Some(Ok(layout.word_at(k)))
-    }
-
-    // What is wrong with writing an element from 2 to 6 of the block at a place.
-    fn write_refusal(&self, place: usize, element: Element) -> Option<Digit>
-        ensures { result ≡ option_map (λ b. write_refusal (shape_of b (element_number element))) (slice_get (S.Store.blocks self.now.store) place) }
-    {
-        let view = self.store.block(place)?;
-        match layout_of(view, element) {
-            Some(_) => Some(Digit::ReadOnly),
-            None => Some(Digit::Missing),
-        }
-    }
-
-    // A step that writes an element from 2 to 6: they are only to be read.
-    fn refuse_write(&mut self, ahs: bool, place: usize, element: Element)
-        ensures { viewed S.Store.blocks self.new ≡ with_block (viewed S.Store.blocks self.old) ahs (slice_get (S.Store.blocks self.old.store) place) (λ b. refusing_step (viewed S.Store.blocks self.old) ahs element b) }
-    {
-        match self.write_refusal(place, element) {
-            None => self.fail(ahs, Element::Closing, Digit::Missing),
-            Some(digit) => self.fail(ahs, element, digit),
-        }
-    }
-
-    fn status_at(&self, place: usize) -> Option<u16>
-        ensures { result ≡ option_map (λ b. b.status) (slice_get (S.Store.blocks self.now.store) place) }
-    {
-        let view = self.store.block(place)?;
-        Some(view.status)
     }
 
     // A step that reads element 1: the data status.
-    fn read_status(&mut self, ahs: bool, place: usize)
-        ensures { viewed S.Store.blocks self.new ≡ with_block (viewed S.Store.blocks self.old) ahs (slice_get (S.Store.blocks self.old.store) place) (λ b. ended (S.Store.blocks self.old.store) self.old.mark ahs self.old.link.place false b.status) }
+    fn read_status(&self, place: usize) -> Result<Reply, Code>
+        ensures { replied (viewed S.Store.blocks self.now) result ≡ with_block (viewed S.Store.blocks self.now) self.now.link.ahs (slice_get (S.Store.blocks self.now.store) place) (status_step (viewed S.Store.blocks self.now) self.now.link.ahs) }
     {
-        let open = self.link.place;
-        match self.status_at(place) {
-            None => self.fail(ahs, Element::Closing, Digit::Missing),
-            Some(status) => self.end(ahs, open, Ok(status)),
-        }
+        let view = self.store.block(place).ok_or(NOT_OPEN)?;
+        Ok(Reply {
+            word: view.status,
+            goes_on: None,
+        })
+    }
+
+    // A step that writes an element from 2 to 6.
+    fn refuse_write(&self, place: usize, element: Element) -> Result<Reply, Code>
+        ensures { replied (viewed S.Store.blocks self.now) result ≡ with_block (viewed S.Store.blocks self.now) self.now.link.ahs (slice_get (S.Store.blocks self.now.store) place) (refusing_step (viewed S.Store.blocks self.now) self.now.link.ahs element) }
+    {
+        let view = self.store.block(place).ok_or(NOT_OPEN)?;
+        refuse(element, write_refusal(view, element))
+    }
+
+    // A step that reads an element from 2 to 7 of the block at a place.
+    fn read(&self, place: usize, element: Element, last: bool) -> Result<Reply, Code>
+        ensures { replied (viewed S.Store.blocks self.now) result ≡ with_block (viewed S.Store.blocks self.now) self.now.link.ahs (slice_get (S.Store.blocks self.now.store) place) (λ b. read_step (viewed S.Store.blocks self.now) self.now.link.ahs element b last) }
+    {
+        let view = self.store.block(place).ok_or(NOT_OPEN)?;
+        let k = next_word(self.link.transfer, element, false);
+        let word = read_word(view, element, k, last).map_err(|digit| Code { element, digit })?;
+        let count = k as u16;
+        let goes_on = (!last).then_some(Transfer {
+            element,
+            write: false,
+            count,
+        });
+        Ok(Reply { word, goes_on })
     }
 
     // What a write needs to know of the block at a place.
@@ -131,58 +144,31 @@ impl<S: Store> Service<S> {
         })
     }
 
-    // A step that reads an element from 2 to 7 of the block at a place.
-    fn read(&mut self, ahs: bool, place: usize, element: Element, last: bool)
-        ensures { viewed S.Store.blocks self.new ≡ with_block (viewed S.Store.blocks self.old) ahs (slice_get (S.Store.blocks self.old.store) place) (λ b. read_step (viewed S.Store.blocks self.old) ahs element b last) }
+    // What a step comes to: element, direction and channel state decide.
+    // stays: one match on the three with guards, as the rules of the channel are told
+    fn reply(&mut self, standing: Standing, control: Control, info: u16) -> Result<Reply, Code>
+        ensures { replied (viewed S.Store.blocks self.new) result ≡ step_on (phase_number standing.phase) standing.out (viewed S.Store.blocks self.old) self.old.link.ahs (element_named (element_of control.0)) (is_write control.0) (is_last control.0) info }
     {
-        let link = self.link;
-        let k = next_word(link.transfer, element, false);
-        let Some(read) = self.read_word(place, element, k, last) else {
-            self.fail(ahs, Element::Closing, Digit::Missing);
-            return;
-        };
-        match read {
-            Err(digit) => self.fail(ahs, element, digit),
-            Ok(word) if last => self.end(ahs, link.place, Ok(word)),
-            Ok(word) => {
-                self.end(ahs, link.place, Ok(word));
-                self.link.transfer = Some(Transfer {
-                    element,
-                    write: false,
-                    count: k as u16,
-                });
-            }
+        let last = control.is_last();
+        match (self.link.place, control.element(), control.is_write()) {
+            (_, Element::Closing, true) => refuse(Element::Closing, Digit::Misused),
+            (_, Element::Closing, false) => self.close(),
+            (_, Element::Number, true) if !last => refuse(Element::Number, Digit::Misused),
+            (_, Element::Number, true) => self.open(Idn(info)),
+            (None, _, _) => Err(NOT_OPEN),
+            (Some(place), Element::Number, false) => self.read_status(place),
+            (Some(place), Element::Content, true) => self.write(standing, place, info, last),
+            (Some(place), element, true) => self.refuse_write(place, element),
+            (Some(place), element, false) => self.read(place, element, last),
         }
     }
 
-    // One step: element, direction and channel state decide.
+    // One step.
     pub fn step(&mut self, phase: Phase, out: Option<Idn>, control: Control, info: u16)
         ensures { viewed S.Store.blocks self.new ≡ step (phase_number phase) out (viewed S.Store.blocks self.old) control.0 info }
     {
-        let ahs = control.handshake();
-        let last = control.is_last();
-        match (self.link.place, control.element(), control.is_write()) {
-            (_, Element::Closing, true) => self.fail(ahs, Element::Closing, Digit::Misused),
-            (_, Element::Closing, false) => self.end(ahs, None, Ok(0)),
-            (_, Element::Number, true) if !last => self.fail(ahs, Element::Number, Digit::Misused),
-            (_, Element::Number, true) => self.open_block(ahs, Idn(info)),
-            (None, _, _) => self.fail(ahs, Element::Closing, Digit::Missing),
-            (Some(place), Element::Number, false) => self.read_status(ahs, place),
-            (Some(place), Element::Content, true) => self.write(ahs, phase, out, place, last, info),
-            (Some(place), element, true) => self.refuse_write(ahs, place, element),
-            (Some(place), element, false) => self.read(ahs, place, element, last),
-        }
-    }
-}
-
-// The number of the next word of a transfer on this element in this direction.
-pub(crate) fn next_word(transfer: Option<Transfer>, element: Element, write: bool) -> usize
-    ensures { result ≡ next_word transfer (element_number element) write }
-{
-    match transfer {
-        Some(t) if t.element.number() == element.number() && t.write == write => usize::from(
-            t.count,
-        ) + 1,
-        _ => 1,
+        self.link.ahs = control.handshake();
+        let reply = self.reply(Standing { phase, out }, control, info);
+        self.end(reply);
     }
 }

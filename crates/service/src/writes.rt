@@ -2,80 +2,70 @@
 ghost use Rattle.std.specs.Prelude.{◌≡◌, true};
 ghost use Rattle.std.specs.List.{slice_get};
 ghost use Rattle.block.specs.Phases.{phase_number};
-ghost use Rattle.service.specs.States.{viewed, head_of, goes_on, words_so_far};
-ghost use Rattle.service.specs.Steps.{finish_parameter, finish, write_fault, write_step, with_block};
-ghost use Rattle.service.specs.Words.{written_data, written_length, pushed};
+ghost use Rattle.service.specs.Replies.{replied, write_replied, last_replied};
+ghost use Rattle.service.specs.States.{viewed, head_of, words_so_far};
+ghost use Rattle.service.specs.Steps.{finish_parameter, finish, write_step, with_block};
+ghost use Rattle.service.specs.Words.{written_data};
 
-use crate::changes::{accept_written, written_fault};
+use crate::changes::accept;
 use crate::kept::Kept;
-use crate::link::{Head, Link, Transfer};
+use crate::link::{Reply, Standing, Target, Transfer};
 use crate::service::Service;
-use crate::steps::next_word;
-use block::idn::Idn;
-use block::phase::Phase;
-use channel::code::{Digit, value_digit};
+use crate::steps::{NOT_OPEN, next_word};
+use channel::code::Digit;
 use channel::control::Element;
-use channel::write::{is_locked, write_fault};
+use channel::fault::Code;
+use channel::write::{check_write, is_locked};
 use store::store::Store;
+use store::value::check_value;
 
 impl<S: Store> Service<S> {
     // The right "last" of a write to a parameter.
-    fn finish_parameter(&mut self, ahs: bool, place: usize, head: Head, n: u16)
-        ensures { viewed S.Store.blocks self.new ≡ finish_parameter (viewed S.Store.blocks self.old) ahs place head (written_data head.attribute.0 n self.old.kept) }
+    fn finish_parameter(&mut self, target: Target, n: u16) -> Result<(), Digit>
+        ensures { last_replied (viewed S.Store.blocks self.new) result ≡ finish_parameter (viewed S.Store.blocks self.old) self.old.link.ahs target.place target.head (written_data target.head.attribute.0 n self.old.kept) }
     {
-        if let Some(fault) = written_fault(&self.store, &self.kept, head, n) {
-            self.fail(ahs, Element::Content, value_digit(fault));
-            return;
-        }
-        accept_written(&mut self.store, &self.kept, place, head.attribute, n);
+        let Target { place, head } = target;
+        let bytes = self.kept.written(head.attribute, n);
+        check_value(&self.store, head.attribute, head.limits, bytes)?;
+        accept(&mut self.store, place, bytes);
         self.mark = false;
-        let open = self.link.place;
-        self.end(ahs, open, Ok(0));
+        Ok(())
     }
 
     // The right "last" of a write.
     fn finish(
         &mut self,
-        ahs: bool,
-        phase: Phase,
-        out: Option<Idn>,
-        place: usize,
-        head: Head,
+        standing: Standing,
+        target: Target,
         n: u16,
         info: u16,
-    )
-        ensures { viewed S.Store.blocks self.new ≡ finish (phase_number phase) out (viewed S.Store.blocks self.old) ahs place head (written_data head.attribute.0 n self.old.kept) info }
+    ) -> Result<(), Digit>
+        ensures { last_replied (viewed S.Store.blocks self.new) result ≡ finish (phase_number standing.phase) standing.out (viewed S.Store.blocks self.old) self.old.link.ahs target.place target.head (written_data target.head.attribute.0 n self.old.kept) info }
     {
-        if head.attribute.is_command() {
-            self.finish_command(ahs, phase, out, place, head, n, info);
+        if target.head.attribute.is_command() {
+            self.finish_command(standing, target, n, info)
         } else {
-            self.finish_parameter(ahs, place, head, n);
+            self.finish_parameter(target, n)
         }
     }
 
     // One word of a write to a block.
-    fn write_block(
+    fn write_word(
         &mut self,
-        ahs: bool,
-        phase: Phase,
-        out: Option<Idn>,
-        place: usize,
-        head: Head,
-        last: bool,
+        standing: Standing,
+        target: Target,
         info: u16,
-    )
-        ensures { viewed S.Store.blocks self.new ≡ write_step (phase_number phase) out (viewed S.Store.blocks self.old) ahs place head last info }
+        last: bool,
+    ) -> Result<Reply, Digit>
+        ensures { write_replied (viewed S.Store.blocks self.new) result ≡ write_step (phase_number standing.phase) standing.out (viewed S.Store.blocks self.old) self.old.link.ahs target.place target.head last info }
     {
-        let Link {
-            place: open,
-            transfer,
-            ..
-        } = self.link;
+        let head = target.head;
+        let transfer = self.link.transfer;
         let k = next_word(transfer, Element::Content, true);
         drop_others(&mut self.kept, transfer);
         let n = self.kept.written_length(k, info);
-        let locked = is_locked(phase, head.idn, head.attribute);
-        if let Some(digit) = write_fault(
+        let locked = is_locked(standing.phase, head.idn, head.attribute);
+        check_write(
             head.keeper,
             locked,
             head.attribute,
@@ -83,45 +73,38 @@ impl<S: Store> Service<S> {
             n,
             k,
             last,
-        ) {
-            self.fail(ahs, Element::Content, digit);
-            return;
-        }
+        )?;
         self.kept.push(info);
         if last {
-            self.finish(ahs, phase, out, place, head, n, info);
-            return;
+            self.finish(standing, target, n, info)?;
+            return Ok(Reply::DONE);
         }
-        let transfer = Some(Transfer {
-            element: Element::Content,
-            write: true,
-            count: k as u16,
-        });
-        self.link = Link {
-            ahs,
-            place: open,
-            transfer,
-            answer: Ok(0),
-        };
+        Ok(Reply {
+            word: 0,
+            goes_on: Some(Transfer {
+                element: Element::Content,
+                write: true,
+                count: k as u16,
+            }),
+        })
     }
 
     // A step that writes the operation data of the block at a place.
     pub(crate) fn write(
         &mut self,
-        ahs: bool,
-        phase: Phase,
-        out: Option<Idn>,
+        standing: Standing,
         place: usize,
-        last: bool,
         info: u16,
-    )
-        ensures { viewed S.Store.blocks self.new ≡ with_block (viewed S.Store.blocks self.old) ahs (slice_get (S.Store.blocks self.old.store) place) (λ b. write_step (phase_number phase) out (viewed S.Store.blocks self.old) ahs place (head_of b) last info) }
+        last: bool,
+    ) -> Result<Reply, Code>
+        ensures { replied (viewed S.Store.blocks self.new) result ≡ with_block (viewed S.Store.blocks self.old) self.old.link.ahs (slice_get (S.Store.blocks self.old.store) place) (λ b. write_step (phase_number standing.phase) standing.out (viewed S.Store.blocks self.old) self.old.link.ahs place (head_of b) last info) }
     {
-        let Some(head) = self.head_at(place) else {
-            self.fail(ahs, Element::Closing, Digit::Missing);
-            return;
-        };
-        self.write_block(ahs, phase, out, place, head, last, info);
+        let head = self.head_at(place).ok_or(NOT_OPEN)?;
+        let written = self.write_word(standing, Target { place, head }, info, last);
+        written.map_err(|digit| Code {
+            element: Element::Content,
+            digit,
+        })
     }
 }
 
@@ -129,8 +112,7 @@ impl<S: Store> Service<S> {
 fn drop_others(kept: &mut Kept, transfer: Option<Transfer>)
     ensures { kept.new ≡ words_so_far transfer kept.old 7 true }
 {
-    match transfer {
-        Some(t) if t.write && t.element.number() == 7 => (),
-        _ => kept.clear(),
+    if !transfer.is_some_and(|t| t.is_on(Element::Content, true)) {
+        kept.clear();
     }
 }

@@ -1,14 +1,15 @@
-use Rattle.std.proofs.Common.{◌≡◌, ◌≤◌, Some, Ok, rules}
+use Rattle.std.proofs.Common.{◌≡◌, ◌≤◌, Some, Ok, sym, ◌∙◌, rules}
 use Rattle.std.specs.List.{slice_get}
-use Rattle.std.specs.Option.{option_map}
+use Rattle.block.specs.Blocks.{Block, seen}
 use Rattle.channel.specs.Controls.{element_number}
-use Rattle.service.specs.Steps.{read_word}
 use Rattle.service.proofs.Small.{place_few}
 use Rattle.service.proofs.service.Service.read.Goals as goal
 
-pub overflow_cast-self : goal.overflow_cast-self
-overflow_cast-self g c =
-    let blocks = g.S.Store.blocks c.args.self.now.store in
-    let found : Some (Ok c.in-Ok.word) ≡ option_map (λ b. read_word (Some b) (element_number c.args.element) c.next_word-k.result c.args.last) (slice_get blocks c.args.place) = search rules in
-    let few : c.next_word-k.result ≤ 512 = place_few blocks c.args.place (element_number c.args.element) c.next_word-k.result c.in-Ok.word c.args.last (g.S.Store.sound c.args.self.now.store) found in
+pub overflow_cast-count : goal.overflow_cast-count
+overflow_cast-count g c =
+    let bs = g.S.Store.blocks c.args.self.now.store in
+    let b : Block = seen c.in_ok-view.view in
+    let at : slice_get bs c.args.place ≡ Some b = search rules in
+    let read : c.read_word.result ≡ Ok c.in_ok-word.word = search rules in
+    let few : c.next_word-k.result ≤ 512 = place_few bs c.args.place (element_number c.args.element) c.next_word-k.result c.in_ok-word.word c.args.last b (g.S.Store.sound c.args.self.now.store) at (sym c.read_word.ensures ∙ read) in
     search rules

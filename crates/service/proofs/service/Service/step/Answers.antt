@@ -1,14 +1,12 @@
-use Rattle.std.proofs.Common.{◌≡◌, true, ◌∙◌, rules}
+use Rattle.std.proofs.Common.{ap, ◌∙◌}
 use Rattle.block.specs.Phases.{phase_number}
+use Rattle.channel.specs.Controls.{element_of, element_named, is_write, is_last}
 use Rattle.service.specs.States.{viewed}
-use Rattle.service.proofs.Stepping.{is_part, refused_on, on_control}
+use Rattle.service.specs.Steps.{step_on}
 use Rattle.service.proofs.service.Service.step.Goals as goal
 
-pub returns-in-Some-default-true : goal.returns-in-Some-default-true
-returns-in-Some-default-true g c =
-    let s = viewed g.S.Store.blocks c.args.self.now in
-    let part : is_part c.element.result ≡ true = search rules in
-    c.refuse_write.ensures
-    ∙ refused_on (phase_number c.args.phase) c.args.out s c.handshake-ahs.result c.is_last-last.result c.args.info c.in-Some-default-true.place c.in-Some-default-true.is-0 c.element.result part
-    ∙ on_control (phase_number c.args.phase) c.args.out s c.handshake-ahs.result true c.is_last-last.result c.element.result c.args.control.0 c.args.info
-      c.handshake-ahs.ensures c.in-Some-default-true.ensures c.is_last-last.ensures c.element.ensures
+pub returns : goal.returns
+returns g c =
+    let control = c.args.control.0 in
+    c.end.ensures ∙ c.reply-reply.ensures
+    ∙ ap (λ ahs. step_on (phase_number c.args.phase) c.args.out (viewed g.S.Store.blocks c.args.self.now) ahs (element_named (element_of control)) (is_write control) (is_last control) c.args.info) c.handshake-self.ensures
