@@ -5,10 +5,15 @@ ghost use Rattle.channel.specs.Timings.{timing_names};
 ghost use Rattle.service.specs.Names.{timings_of, invalid_among, names_for_phase_3, names_for_phase_4};
 ghost use Rattle.service.specs.Words.{pushed, word_bytes};
 
-use crate::active::{block_of, is_to_name, valid_value};
+use crate::active::{is_to_name, valid_value};
 use crate::kept::Kept;
 use block::idn::Idn;
+use block::idns::{
+    MDT_LENGTH, PHASE_4_BLOCKS, RECORD_POSITION, T1, T1_MIN, T4, T5, T_NCYC, T_SCYC,
+};
+use block::value::word_at;
 use channel::timing::Timings;
+use store::scan::block_of;
 use store::store::Store;
 
 // The ring's timings as they stand, each if it is valid.
@@ -16,23 +21,23 @@ pub fn timings_of<S: Store>(store: &S) -> Timings
     ensures { result ≡ timings_of (S.Store.blocks store.now) }
 {
     Timings {
-        ncyc: valid_value(store, Idn(1)),
-        scyc: valid_value(store, Idn(2)),
-        least: valid_value(store, Idn(3)),
-        t5: valid_value(store, Idn(5)),
-        t1: valid_value(store, Idn(6)),
-        t4: valid_value(store, Idn(7)),
-        position: valid_value(store, Idn(9)),
-        size: valid_value(store, Idn(10)),
+        ncyc: valid_value(store, T_NCYC),
+        scyc: valid_value(store, T_SCYC),
+        least: valid_value(store, T1_MIN),
+        t5: valid_value(store, T5),
+        t1: valid_value(store, T1),
+        t4: valid_value(store, T4),
+        position: valid_value(store, RECORD_POSITION),
+        size: valid_value(store, MDT_LENGTH),
     }
 }
 
 // One name more, if it is to be named.
-fn push_if(names: &mut Kept, named: bool, idn: u16)
-    ensures { names.new ≡ (if named then pushed names.old idn else names.old) }
+fn push_if(names: &mut Kept, named: bool, idn: Idn)
+    ensures { names.new ≡ (if named then pushed names.old idn.0 else names.old) }
 {
     if named {
-        names.push(idn);
+        names.push(idn.0);
     }
 }
 
@@ -41,22 +46,26 @@ fn name_timings(names: &mut Kept, timings: &Timings)
     ensures { names.new ≡ word_bytes (timing_names timings.now) }
 {
     names.clear();
-    push_if(names, timings.names_ncyc(), 1);
-    push_if(names, timings.names_scyc(), 2);
-    push_if(names, timings.least.is_none(), 3);
-    push_if(names, timings.t5.is_none(), 5);
-    push_if(names, timings.names_t1(), 6);
-    push_if(names, timings.names_t4(), 7);
-    push_if(names, timings.names_position(), 9);
-    push_if(names, timings.size.is_none(), 10);
+    let rows = [
+        (timings.names_ncyc(), T_NCYC),
+        (timings.names_scyc(), T_SCYC),
+        (timings.least.is_none(), T1_MIN),
+        (timings.t5.is_none(), T5),
+        (timings.names_t1(), T1),
+        (timings.names_t4(), T4),
+        (timings.names_position(), RECORD_POSITION),
+        (timings.size.is_none(), MDT_LENGTH),
+    ];
+    for (named, idn) in rows {
+        push_if(names, named, idn);
+    }
 }
 
 // What S-0-0127 names.
 pub(crate) fn name_for_phase_3<S: Store>(store: &S, names: &mut Kept)
     ensures { names.new ≡ word_bytes (names_for_phase_3 (S.Store.blocks store.now)) }
 {
-    let timings = timings_of(store);
-    name_timings(names, &timings);
+    name_timings(names, &timings_of(store));
 }
 
 // What S-0-0128 names: the invalid entries of S-0-0019.
@@ -64,10 +73,9 @@ pub(crate) fn name_for_phase_4<S: Store>(store: &S, names: &mut Kept)
     ensures { names.new ≡ word_bytes (names_for_phase_4 (S.Store.blocks store.now)) }
 {
     names.clear();
-    let Some(view) = block_of(store, Idn(19)) else {
-        return;
-    };
-    name_invalid(store, view.content, names);
+    if let Some(list) = block_of(store, PHASE_4_BLOCKS) {
+        name_invalid(store, list.content, names);
+    }
 }
 
 // Names the invalid ones among a list of IDNs.
@@ -76,11 +84,8 @@ fn name_invalid<S: Store>(store: &S, entries: &[u8], names: &mut Kept)
     requires names_value { names.old ≡ [] }
     ensures { names.new ≡ word_bytes (invalid_among (S.Store.blocks store.now) (words_of entries.now)) }
 {
-    let mut i = 0;
-    while entries.len() - i >= 2 {
-        let idn = Idn(u16::from(entries[i]) + 256 * u16::from(entries[i + 1]));
-        let named = is_to_name(store, idn);
-        push_if(names, named, idn.0);
-        i += 2;
+    for pair in entries.chunks_exact(2) {
+        let idn = Idn(word_at(pair, 0));
+        push_if(names, is_to_name(store, idn), idn);
     }
 }

@@ -8,8 +8,8 @@ use block::idn::Idn;
 use block::keeper::Keeper;
 use block::limits::Limits;
 use block::phase::Phase;
+use channel::code::Code;
 use channel::control::Element;
-use channel::fault::Code;
 
 // A run of steps on one element in one direction, and how many words it had.
 #[derive(Clone, Copy, PartialEq, Eq, Debug)]

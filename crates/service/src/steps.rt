@@ -15,9 +15,8 @@ use crate::service::Service;
 use block::idn::Idn;
 use block::phase::Phase;
 use block::view::View;
-use channel::code::Digit;
+use channel::code::{Code, Digit};
 use channel::control::{Control, Element};
-use channel::fault::Code;
 use channel::layout::{check_read, layout_of};
 use store::store::Store;
 

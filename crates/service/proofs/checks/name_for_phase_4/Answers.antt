@@ -5,6 +5,6 @@ use Rattle.service.proofs.checks.name_for_phase_4.Goals as goal
 pub name_invalid-requires : goal.name_invalid-requires
 name_invalid-requires g c =
     record {
-      entries_len_bound = entries_small (g.S.Store.blocks c.args.store.now) 19 (seen c.in-Some.view) (g.S.Store.sound c.args.store.now) c.in-Some.ensures;
+      entries_len_bound = entries_small (g.S.Store.blocks c.args.store.now) 19 (seen c.in-Some.list) (g.S.Store.sound c.args.store.now) c.in-Some.ensures;
       names_value = c.clear.ensures;
     }
