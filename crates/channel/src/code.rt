@@ -40,10 +40,3 @@ impl From<ValueFault> for Digit {
         }
     }
 }
-
-// The digit of a value that does not pass its check.
-pub fn value_digit(fault: ValueFault) -> Digit
-    ensures { digit_number result ≡ cause_of fault }
-{
-    Digit::from(fault)
-}

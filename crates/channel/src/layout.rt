@@ -119,10 +119,3 @@ pub fn check_read(words: usize, k: usize, last: bool) -> Result<(), Digit>
         _ => Ok(()),
     }
 }
-
-// The same fault, as an option.
-pub fn read_fault(words: usize, k: usize, last: bool) -> Option<Digit>
-    ensures { result ≡ read_fault words k last }
-{
-    check_read(words, k, last).err()
-}

@@ -72,33 +72,3 @@ pub fn check_write(
     }
     Ok(())
 }
-
-// The first fault of word k of a write, where n is the list's length.
-pub fn write_fault(
-    keeper: Keeper,
-    locked: bool,
-    attribute: Attribute,
-    most: u16,
-    n: u16,
-    k: usize,
-    last: bool,
-) -> Option<Digit>
-    ensures { result ≡ write_rule keeper locked attribute.0 most n k last }
-{
-    if keeper != Keeper::Master {
-        return Some(Digit::ReadOnly);
-    }
-    if locked {
-        return Some(Digit::Locked);
-    }
-    if is_too_long(attribute, most, n, k) {
-        return Some(Digit::Late);
-    }
-    if is_broken(attribute, n) {
-        return Some(Digit::Wrong);
-    }
-    if last && k < final_word(attribute, n) {
-        return Some(Digit::Early);
-    }
-    None
-}
