@@ -12,7 +12,7 @@ use block::idn::Idn;
 use block::view::View;
 
 // The blocks of a store, one after the other, from a place on.
-#[derive(Clone, Copy)]
+#[derive(Drop)]
 pub struct Views<'a, S> {
     store: &'a S,
     place: usize,
