@@ -44,11 +44,10 @@ impl<S: Store> Drive<S> {
         if self.phase == Phase::Zero {
             return Err(Refusal::PhaseZero);
         }
-        if buffer.len() < 5 {
+        let Some(head) = buffer.first_chunk_mut() else {
             return Err(Refusal::Buffer);
-        }
-        // stays: tried `get_mut(..5)`; the proof did not tie what it lends to the buffer
-        buffer[..5].copy_from_slice(&self.at_bytes(bits));
+        };
+        *head = self.at_bytes(bits);
         Ok(())
     }
 }

@@ -32,11 +32,10 @@ fn check_length(attribute: Attribute, most: u16, n: usize) -> Result<(), Cause>
         if n > usize::from(most) {
             return Err(Cause::TooLong);
         }
-        return if n % item == 0 {
-            Ok(())
-        } else {
-            Err(Cause::Broken)
-        };
+        if n % item != 0 {
+            return Err(Cause::Broken);
+        }
+        return Ok(());
     }
     match n.cmp(&item) {
         Ordering::Less => Err(Cause::TooShort),

@@ -44,176 +44,134 @@ const SPAN: Option<Limits> = Some(Limits {
     upper: 0x0001_86a0,
 });
 
+// The master's timing at the start of memory; each row below says what it has in place of that.
+const ROW: Row<'static> = Row {
+    idn: Idn(1),
+    keeper: Keeper::Master,
+    name: b"",
+    attribute: TIMING,
+    unit: b"",
+    limits: None,
+    most: 0,
+    start: 0,
+};
+
 pub static ROWS: [Row<'static>; 17] = [
     Row {
         idn: Idn(1),
-        keeper: Keeper::Master,
-        name: b"",
-        attribute: TIMING,
-        unit: b"",
         limits: CYCLE,
-        most: 0,
-        start: 0,
+        ..ROW
     },
     Row {
         idn: Idn(2),
-        keeper: Keeper::Master,
-        name: b"",
-        attribute: TIMING,
-        unit: b"",
         limits: CYCLE,
-        most: 0,
         start: 2,
+        ..ROW
     },
     Row {
         idn: Idn(3),
         keeper: Keeper::Drive,
-        name: b"",
-        attribute: TIMING,
-        unit: b"",
         limits: SLOT,
-        most: 0,
         start: 4,
+        ..ROW
     },
     Row {
         idn: Idn(5),
         keeper: Keeper::Drive,
-        name: b"",
-        attribute: TIMING,
-        unit: b"",
         limits: SLOT,
-        most: 0,
         start: 6,
+        ..ROW
     },
     Row {
         idn: Idn(6),
-        keeper: Keeper::Master,
-        name: b"",
-        attribute: TIMING,
-        unit: b"",
         limits: SLOT,
-        most: 0,
         start: 8,
+        ..ROW
     },
     Row {
         idn: Idn(7),
-        keeper: Keeper::Master,
-        name: b"",
-        attribute: TIMING,
-        unit: b"",
         limits: SLOT,
-        most: 0,
         start: 10,
+        ..ROW
     },
     Row {
         idn: Idn(9),
-        keeper: Keeper::Master,
-        name: b"",
-        attribute: TIMING,
-        unit: b"",
         limits: POSITION,
-        most: 0,
         start: 12,
+        ..ROW
     },
     Row {
         idn: Idn(10),
-        keeper: Keeper::Master,
-        name: b"",
-        attribute: TIMING,
-        unit: b"",
         limits: SIZE,
-        most: 0,
         start: 14,
+        ..ROW
     },
     Row {
         idn: Idn(11),
         keeper: Keeper::Drive,
-        name: b"",
         attribute: WORD,
-        unit: b"",
-        limits: None,
-        most: 0,
         start: 16,
+        ..ROW
     },
     Row {
         idn: Idn(14),
         keeper: Keeper::Channel,
-        name: b"",
         attribute: WORD,
-        unit: b"",
-        limits: None,
-        most: 0,
         start: 18,
+        ..ROW
     },
     Row {
         idn: Idn(19),
         keeper: Keeper::Nobody,
-        name: b"",
         attribute: IDNS,
-        unit: b"",
-        limits: None,
         most: 4,
         start: 20,
+        ..ROW
     },
     Row {
         idn: Idn(21),
         keeper: Keeper::Channel,
-        name: b"",
         attribute: IDNS,
-        unit: b"",
-        limits: None,
         most: 16,
         start: 24,
+        ..ROW
     },
     Row {
         idn: Idn(22),
         keeper: Keeper::Channel,
-        name: b"",
         attribute: IDNS,
-        unit: b"",
-        limits: None,
         most: 4,
         start: 40,
+        ..ROW
     },
     Row {
         idn: Idn(95),
         keeper: Keeper::Channel,
-        name: b"",
         attribute: TEXT,
-        unit: b"",
-        limits: None,
         most: 32,
         start: 44,
+        ..ROW
     },
     Row {
         idn: Idn(127),
-        keeper: Keeper::Master,
-        name: b"",
         attribute: COMMAND,
-        unit: b"",
-        limits: None,
-        most: 0,
         start: 76,
+        ..ROW
     },
     Row {
         idn: Idn(128),
-        keeper: Keeper::Master,
-        name: b"",
         attribute: COMMAND,
-        unit: b"",
-        limits: None,
-        most: 0,
         start: 78,
+        ..ROW
     },
     Row {
         idn: Idn(0x8031),
-        keeper: Keeper::Master,
         name: b"Torque",
         attribute: TORQUE,
         unit: b"Nm",
         limits: SPAN,
-        most: 0,
         start: 80,
+        ..ROW
     },
 ];
 
