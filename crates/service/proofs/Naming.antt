@@ -63,11 +63,6 @@ row_named rs i d b w k k' in' few eb ew e short after =
     ap rows_named (take_more rs i d in') ∙ rows_named-append (take i rs) (row ∷ []) ∙ ap (λ l. rows_named (take i rs) ++ l) last in
     (next.0 ∙ ap word_bytes (sym more), omega (arith, next.1))
 
-no_words : (bytes : List ℕ) → length bytes < 2 → words_of bytes ≡ []
-no_words [] h = refl
-no_words (a ∷ []) h = refl
-no_words (a ∷ (b ∷ bs)) h = absurd (omega arith)
-
 words_pair : (pair rest : List ℕ) → length pair ≡ 2 → words_of (pair ++ rest) ≡ word (slice_index pair 0) (slice_index pair 1) ∷ words_of rest
 words_pair [] rest h = absurd (omega (arith, h))
 words_pair (a ∷ []) rest h = absurd (omega (arith, h))
@@ -86,12 +81,8 @@ entry_named bs pair rest all k k' total w b two parts is test room after so_far 
     let next : words_of all ≡ w ∷ words_of rest = ap words_of parts ∙ words_pair pair rest two ∙ ap (λ x. x ∷ words_of rest) (sym is) in (
       omega (arith, ap length more, length-append k (word_bytes (named w (is_to_name bs w))), length-named w (is_to_name bs w)),
       ap (λ l. l ++ left) more ∙ append_assoc k (word_bytes (named w (is_to_name bs w))) left
-      ∙ ap (λ l. k ++ l) (sym (among_more bs w (words_of rest))) ∙ ap (λ l. k ++ word_bytes (invalid_among bs l)) (sym next) ∙ so_far,
+          ∙ ap (λ l. k ++ l) (sym (among_more bs w (words_of rest))) ∙ ap (λ l. k ++ word_bytes (invalid_among bs l)) (sym next) ∙ so_far,
     )
-
--- no entry is left
-pub entries_named : (bs : List Block) (rest k total : List ℕ) → length rest < 2 → k ++ word_bytes (invalid_among bs (words_of rest)) ≡ total → k ≡ total
-entries_named bs rest k total h so_far = sym (append-nil k) ∙ ap (λ l. k ++ word_bytes (invalid_among bs l)) (sym (no_words rest h)) ∙ so_far
 
 -- the entries of a block that keeps the rules are at most 1,020 bytes
 pub entries_small : (bs : List Block) (n : ℕ) (b : Block) → all_kept bs ≡ true → Some b ≡ block_of bs n → length b.content ≤ 1020

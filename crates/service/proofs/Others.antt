@@ -28,12 +28,12 @@ none_active (b ∷ bs) i place h =
 -- what a search through the places comes to
 pub search_others : (bs : List Block) (place n : ℕ) (r : Bool) → n ≡ length bs
     → MatchBool r ((k : ℕ) × (k < length (range_with_len 0 n)) × HoldsAt (λ i. (not (eqb i place) && is_active_command (slice_get bs i)) ≡ true) (range_with_len 0 n) k)
-      (AllWithin (λ i. (not (eqb i place) && is_active_command (slice_get bs i)) ≡ false) (range_with_len 0 n) 0 (length (range_with_len 0 n)))
+    (AllWithin (λ i. (not (eqb i place) && is_active_command (slice_get bs i)) ≡ false) (range_with_len 0 n) 0 (length (range_with_len 0 n)))
     → r ≡ others_active place bs
 search_others bs place n true len (k, in', t) =
     let within : k < n = omega (arith, length-range_with_len 0 n) in
     sym (one_active bs 0 place k (omega arith) (rw (zero-add k) (rw (get_or-range_with_len 0 n k 0 within, zero-add k) at (t 0))))
 search_others bs place n false len h =
     sym (none_active bs 0 place (λ k in'.
-      let within : k < n = omega arith in
-      rw (zero-add k) (rw (get_or-range_with_len 0 n k 0 within, zero-add k) at (h k 0 (omega arith) (omega (arith, length-range_with_len 0 n))))))
+    let within : k < n = omega arith in
+    rw (zero-add k) (rw (get_or-range_with_len 0 n k 0 within, zero-add k) at (h k 0 (omega arith) (omega (arith, length-range_with_len 0 n))))))

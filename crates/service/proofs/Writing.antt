@@ -1,14 +1,16 @@
 -- One word of a write, put together from the verdicts on it. Assumes nothing.
-use Rattle.std.proofs.Common.{◌≡◌, ℕ, Bool, true, cond, List, Ok, Err, Some, None, Option, refl, sym, ◌∙◌}
+use Rattle.std.proofs.Common.{◌≡◌, ℕ, Bool, true, cond, List, Ok, Err, Some, None, Option, refl, sym, ap, ◌∙◌}
+use Rattle.std.specs.Option.{option_map}
 use Rattle.std.proofs.lemmas.Bool.{cond-true}
 use Rattle.block.specs.declared.idn.Idn.{Idn}
+use Rattle.block.specs.Blocks.{Block}
 use Rattle.block.specs.Values.{ok_unless}
 use Rattle.channel.specs.declared.code.Digit.{Digit}
 use Rattle.channel.specs.Writes.{is_locked, write_rule}
 use Rattle.service.specs.declared.link.Head.{Head}
 use Rattle.channel.specs.declared.control.Element.TheVariants.{Content}
-use Rattle.service.specs.States.{State, next_word, words_so_far, going}
-use Rattle.service.specs.Steps.{finish, refused, write_fault, unless_fault, write_word, write_step}
+use Rattle.service.specs.States.{State, head_of, next_word, words_so_far, going}
+use Rattle.service.specs.Steps.{finish, refused, write_fault, unless_fault, write_word, write_step, with_block}
 use Rattle.service.specs.Words.{written_length, written_data, pushed}
 
 passed : (o : Option Digit) → Ok tt ≡ ok_unless o → o ≡ None
@@ -27,7 +29,7 @@ module _ (phase : ℕ) (out : Option Idn) (s : State) (ahs : Bool) (place : ℕ)
 
   word_is : (o : Option Digit) → rule ≡ o
       → unless_fault s ahs o (cond last (finish phase out s ahs place h (written_data h.attribute.0 n (pushed before info)) info)
-        (going s.blocks s.mark ahs s.link.place (record { element = Content; write = true; count = k }) (pushed before info) 0))
+      (going s.blocks s.mark ahs s.link.place (record { element = Content; write = true; count = k }) (pushed before info) 0))
       ≡ write_step phase out s ahs place h last info
   unfolding rule
   word_is o e = rw (← e, ← ek, ← eb, en, elo)
@@ -44,3 +46,9 @@ module _ (phase : ℕ) (out : Option Idn) (s : State) (ahs : Bool) (place : ℕ)
       → finish phase out s ahs place h (written_data h.attribute.0 n words) info ≡ write_step phase out s ahs place h last info
   unfolding rule
   write_last words e el ew = rw ew (sym (cond-true last _ _ el) ∙ word_is None (passed _ e))
+
+-- what is done with the head of a block
+pub with_head : (s : State) (ahs : Bool) (o : Option Block) (h : Head) (F : Head → State) → Some h ≡ option_map head_of o
+    → F h ≡ with_block s ahs o (λ b. F (head_of b))
+with_head s ahs None h F e = absurd (cc)
+with_head s ahs (Some b) h F e = let same : h ≡ head_of b = cc in ap F same

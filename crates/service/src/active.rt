@@ -6,7 +6,7 @@ ghost use Rattle.service.specs.Names.{is_to_name, valid_value};
 ghost use Rattle.service.specs.Steps.{is_active_command, others_active, is_recalled};
 
 use block::idn::Idn;
-use block::value::pattern_of;
+use block::value::word_at;
 use channel::command::{CommandStatus, is_active};
 use store::scan::block_of;
 use store::store::Store;
@@ -15,9 +15,7 @@ use store::store::Store;
 fn is_active_at<S: Store>(store: &S, place: usize) -> bool
     ensures { result ≡ is_active_command (slice_get (S.Store.blocks store.now) place) }
 {
-    store
-        .block(place)
-        .is_some_and(|view| view.attribute.is_command() && is_active(view.status))
+    store.block(place).is_some_and(|view| view.attribute.is_command() && is_active(view.status))
 }
 
 // Whether another command than the one at a place is interrupted or under way.
@@ -41,7 +39,7 @@ pub(crate) fn valid_value<S: Store>(store: &S, idn: Idn) -> Option<u16>
 {
     block_of(store, idn)
         .filter(|view| !view.is_invalid())
-        .map(|view| (pattern_of(view.content) % 0x1_0000) as u16)
+        .map(|view| word_at(view.content, 0))
 }
 
 // Whether S-0-0128 names an entry: it is not 0, and its block is invalid.

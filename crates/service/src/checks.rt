@@ -9,7 +9,7 @@ use crate::active::{is_to_name, valid_value};
 use crate::kept::Kept;
 use block::idn::Idn;
 use block::idns::{
-    MDT_LENGTH, PHASE_4_BLOCKS, RECORD_POSITION, T1, T1_MIN, T4, T5, T_NCYC, T_SCYC,
+    MDT_LENGTH, PHASE_4_BLOCKS, RECORD_POSITION, T_NCYC, T_SCYC, T1, T1_MIN, T4, T5,
 };
 use block::value::word_at;
 use channel::timing::Timings;

@@ -73,29 +73,22 @@ impl<S: Store> Service<S> {
         self.mark |= passed;
     }
 
-    // Runs a check to its end, if the IDN is that of one.
-    fn check(&mut self, place: usize, idn: Idn) -> bool
-        ensures cases { MatchOption (check_of idn.0 (S.Store.blocks self.old.store)) ((result ≡ false) × (stock_of (viewed S.Store.blocks self.new) ≡ stock_of (viewed S.Store.blocks self.old))) (λ c. (result ≡ true) × (stock_of (viewed S.Store.blocks self.new) ≡ checked (S.Store.blocks self.old.store) self.old.mark place c)) }
-        ensures link { self.new.link ≡ self.old.link }
-    {
-        let Some(list) = run_check(&self.store, &mut self.kept, idn) else {
-            return false;
-        };
-        self.end_check(place, list);
-        true
-    }
-
     // A word that the command takes: its data are stored, and word 3 runs a check to its end.
     fn take_word(&mut self, target: Target, n: u16, info: u16, status: u16)
         ensures stock { stock_of (viewed S.Store.blocks self.new) ≡ commanded (S.Store.blocks self.old.store) self.old.mark target.place target.head.idn.0 (written_data target.head.attribute.0 n self.old.kept) info status }
         ensures link { self.new.link ≡ self.old.link }
     {
         let Target { place, head } = target;
-        let _ = self.store.replace(place, self.kept.written(head.attribute, n));
-        if info == CommandWord::Start.number() && self.check(place, head.idn) {
-            return;
+        let _ = self
+            .store
+            .replace(place, self.kept.written(head.attribute, n));
+        if info == CommandWord::Start.number()
+            && let Some(list) = run_check(&self.store, &mut self.kept, head.idn)
+        {
+            self.end_check(place, list);
+        } else {
+            let _ = self.store.set_status(place, status);
         }
-        let _ = self.store.set_status(place, status);
     }
 
     // The right "last" of a write to a command.

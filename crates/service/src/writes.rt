@@ -32,13 +32,7 @@ impl<S: Store> Service<S> {
     }
 
     // The right "last" of a write.
-    fn finish(
-        &mut self,
-        standing: Standing,
-        target: Target,
-        n: u16,
-        info: u16,
-    ) -> Result<(), Digit>
+    fn finish(&mut self, standing: Standing, target: Target, n: u16, info: u16) -> Result<(), Digit>
         ensures { last_replied (viewed S.Store.blocks self.new) result ≡ finish (phase_number standing.phase) standing.out (viewed S.Store.blocks self.old) self.old.link.ahs target.place target.head (written_data target.head.attribute.0 n self.old.kept) info }
     {
         if target.head.attribute.is_command() {
@@ -64,15 +58,7 @@ impl<S: Store> Service<S> {
         drop_others(&mut self.kept, transfer);
         let n = self.kept.written_length(k, info);
         let locked = is_locked(standing.phase, head.idn, head.attribute);
-        check_write(
-            head.keeper,
-            locked,
-            head.attribute,
-            head.most,
-            n,
-            k,
-            last,
-        )?;
+        check_write(head.keeper, locked, head.attribute, head.most, n, k, last)?;
         self.kept.push(info);
         if last {
             self.finish(standing, target, n, info)?;

@@ -12,4 +12,4 @@ returns g c =
     let n = c.count.result in
     search_others bs place n c.any.result (search rules)
     (cases_from_any _ _ _ (λ i. (not (eqb i place) && is_active_command (slice_get bs i)) ≡ true) (λ i. (not (eqb i place) && is_active_command (slice_get bs i)) ≡ false)
-      c.any.ensures.ran (YieldsList-from_range 0 n n refl (omega arith)) (λ x q k. search (rules, tests)) (λ x q k. search (rules, tests)))
+    c.any.ensures.ran (YieldsList-from_range 0 n n refl (omega arith)) (λ x q k. search (rules, tests)) (λ x q k. search (rules, tests)))
