@@ -2,11 +2,11 @@
 use crate::make::{TEXT, fixed, has_content, keeper_at, row, state, status_at};
 use block::idn::Idn;
 use block::keeper::Keeper;
-use block::view::View;
 use joined::Joined;
 use rows::plan::Plan;
 use rows::row::Row;
 use std::process::Abort;
+use store::scan::Views;
 use store::store::Store;
 use table::catalogue::Catalogue;
 use table::table::Table;
@@ -49,24 +49,9 @@ fn a_status_is_set(rt: HostRuntime) {
     assert_eq!(rt; status_at(&table, 0), Some(9));
 }
 
-// Whether two blocks are the same in every part.
-fn is_same(a: View<'_>, b: View<'_>) -> bool {
-    let head = a.idn == b.idn && a.keeper == b.keeper && a.status == b.status;
-    let texts = a.name == b.name && a.unit == b.unit && a.content == b.content;
-    head && texts && a.attribute == b.attribute && a.limits == b.limits && a.most == b.most
-}
-
 // Whether two stores list the same blocks in the same order.
 fn list_the_same<A: Store, B: Store>(a: &A, b: &B) -> bool {
-    for place in 0..a.count() {
-        let (Some(x), Some(y)) = (a.block(place), b.block(place)) else {
-            return false;
-        };
-        if !is_same(x, y) {
-            return false;
-        }
-    }
-    a.count() == b.count()
+    a.count() == b.count() && Views::of(a).zip(Views::of(b)).all(|(x, y)| x == y)
 }
 
 // Three stores, joined from the left and joined from the right.

@@ -52,24 +52,15 @@ pub fn shown<'r>(rows: &'r [Row<'r>], states: &mut [State], bytes: &mut [u8]) ->
 
 // Whether the block at a place has this content.
 pub fn has_content<S: Store>(store: &S, place: usize, bytes: &[u8]) -> bool {
-    match store.block(place) {
-        Some(view) => view.content == bytes,
-        None => false,
-    }
+    store.block(place).is_some_and(|view| view.content == bytes)
 }
 
 // Who keeps the block at a place.
 pub fn keeper_at<S: Store>(store: &S, place: usize) -> Option<Keeper> {
-    match store.block(place) {
-        Some(view) => Some(view.keeper),
-        None => None,
-    }
+    store.block(place).map(|view| view.keeper)
 }
 
 // The data status of the block at a place.
 pub fn status_at<S: Store>(store: &S, place: usize) -> Option<u16> {
-    match store.block(place) {
-        Some(view) => Some(view.status),
-        None => None,
-    }
+    store.block(place).map(|view| view.status)
 }

@@ -7,7 +7,7 @@ use rows::plan::Plan;
 use rows::row::Row;
 use std::test::Fail;
 use store::store::Store;
-use store::value::value_fault;
+use store::value::check_value;
 use table::table::Table;
 
 fn limited(attribute: Attribute, lower: u32, upper: u32) -> Row<'static> {
@@ -23,10 +23,8 @@ struct NoBlock;
 
 // What the check of a value says for the first block of a store.
 fn first_fault<S: Store>(store: &S, bytes: &[u8]) -> Result<Option<ValueFault>, NoBlock> {
-    match store.block(0) {
-        Some(view) => Ok(value_fault(store, view.attribute, view.limits, bytes)),
-        None => Err(NoBlock),
-    }
+    let view = store.block(0).ok_or(NoBlock)?;
+    Ok(check_value(store, view.attribute, view.limits, bytes).err())
 }
 
 // What the check of a pattern says in a store of this row.
@@ -78,7 +76,7 @@ fn list_fault(bytes: &[u8]) -> Option<ValueFault> {
     let mut states = [state(2), state(2), state(0)];
     let mut memory = [0; 12];
     let table = Table::new(&plan, &mut states, &mut memory);
-    value_fault(&table, IDNS, None, bytes)
+    check_value(&table, IDNS, None, bytes).err()
 }
 
 #[test]
