@@ -4,7 +4,7 @@
 ghost use Rattle.std.specs.Prelude.{◌≡◌, List};
 ghost use Rattle.block.specs.Blocks.{Block};
 ghost use Rattle.joined.specs.Bounds.{joined_few, joined_sound};
-ghost use Rattle.joined.specs.Joining.{is_whole, joined_blocks, left_out, side_of};
+ghost use Rattle.joined.specs.Joining.{is_whole, joined_blocks, left_out, found_behind, side_of};
 
 use block::idn::Idn;
 use block::view::View;
@@ -21,6 +21,8 @@ pub struct Joined<F, S> {
 }
 
 // The store that a place of the joined list lies in, and the place there.
+// stays: no Result or Option, since neither side is the failure or the lack of the other; each call asks its own side for
+// itself, since one function for all would take two closures and be longer than a match.
 #[derive(Clone, Copy)]
 enum Side {
     First(usize),
@@ -41,6 +43,16 @@ impl<F: Store, S: Store> Joined<F, S> {
         ensures { result ≡ is_whole (F.Store.blocks self.now.first) (S.Store.blocks self.now.second) }
     {
         self.first.count() + self.second.count() <= MOST_BLOCKS
+    }
+
+    // The place of an IDN that the first store does not have.
+    fn find_behind(&self, idn: Idn) -> Option<usize>
+        ensures { result ≡ found_behind (F.Store.blocks self.now.first) (S.Store.blocks self.now.second) idn.0 }
+    {
+        if !self.is_whole() {
+            return None;
+        }
+        Some(self.first.count() + self.second.find(idn)?)
     }
 
     // A place past the first store lies in the second, or nowhere if only the first is shown: the first
@@ -79,11 +91,7 @@ impl<F: Store, S: Store> Store for Joined<F, S> {
     }
 
     fn find(&self, idn: Idn) -> Option<usize> {
-        match self.first.find(idn) {
-            Some(place) => Some(place),
-            None if self.is_whole() => Some(self.first.count() + self.second.find(idn)?),
-            None => None,
-        }
+        self.first.find(idn).or_else(|| self.find_behind(idn))
     }
 
     fn block(&self, place: usize) -> Option<View<'_>> {
