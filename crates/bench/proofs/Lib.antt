@@ -1,1 +1,1 @@
-pub mod Telegrams
+pub mod Texts

@@ -1,5 +1,8 @@
--- The lines of the bench: `S pp` and `D cccc iiii` in capital hexadecimal. Assumes nothing.
-use Rattle.std.specs.Prelude.{ℕ, ◌+◌, ◌-◌, ◌*◌, Bool, cond, ◌&&◌, ◌||◌, List, length, Some, None, Option, ◌==◌, nat_le, slice_index}
+-- The lines of the bench, `S pp` and `D cccc iiii`, and of its answers, all in capital hexadecimal. Assumes nothing.
+use Rattle.std.specs.Prelude.{ℕ, ◌+◌, ◌-◌, ◌*◌, ◌/◌, ◌%◌, Bool, cond, ◌&&◌, ◌||◌, List, [], ◌∷◌, ◌++◌, length, Some, None, Option, Ok, Err, Result, ◌==◌, nat_le, nat_lt, slice_index}
+use Rattle.refusal.specs.declared.Refusal.{Refusal}
+use Rattle.refusal.specs.Refusals.{refusal_number}
+use Rattle.bench.specs.declared.line.Answer.{Answer}
 use Rattle.bench.specs.declared.line.Line.{Line}
 use Rattle.bench.specs.declared.line.Line.TheVariants.{Info, Record}
 
@@ -35,3 +38,19 @@ record_line t =
 -- the line that a text is: exactly its form, else none
 abbrev pub line_read : List ℕ → Option Line
 line_read t = elim (info_line t) [ Some l ↦ Some l | None ↦ record_line t ]
+
+-- the digit of a value below 16, and a word in four digits
+abbrev pub hex_digit : ℕ → ℕ
+hex_digit v = cond (nat_lt v 10) (48 + v) (55 + v)
+
+abbrev pub hex_word : ℕ → List ℕ
+hex_word n = hex_digit (n / 4096) ∷ hex_digit (n / 256 % 16) ∷ hex_digit (n / 16 % 16) ∷ hex_digit (n % 16) ∷ []
+
+-- `ssss iiii`: status word and info
+abbrev pub answer_text : Answer → List ℕ
+answer_text a = hex_word a.status ++ (32 ∷ hex_word a.info)
+
+-- `ssss iiii`, or `R nn` with the number of the refusal in two decimal digits
+abbrev pub shown_text : Result Answer Refusal → List ℕ
+shown_text (Ok a) = answer_text a
+shown_text (Err r) = 82 ∷ 32 ∷ (48 + refusal_number r / 10) ∷ (48 + refusal_number r % 10) ∷ []

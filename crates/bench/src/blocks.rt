@@ -1,27 +1,55 @@
 // The rows of the bench's drive: just the demanded blocks.
 use block::attribute::Attribute;
 use block::idn::Idn;
+use block::idns::{
+    CLASS_1_DIAGNOSTIC, DIAGNOSTIC_TEXT, INTERFACE_STATUS, INVALID_FOR_PHASE_3,
+    INVALID_FOR_PHASE_4, MDT_LENGTH, PHASE_3_CHECK, PHASE_4_BLOCKS, PHASE_4_CHECK, RECORD_POSITION,
+    T_NCYC, T_SCYC, T1, T1_MIN, T4, T5,
+};
 use block::keeper::Keeper;
 use block::limits::Limits;
 use rows::row::{Row, State};
 
-const TIMING: Attribute = Attribute(0x0011_0001);
-
-const WORD: Attribute = Attribute(0x0001_0001);
-
-const IDN_LIST: Attribute = Attribute(0x0055_0001);
-
 const TEXT: Attribute = Attribute(0x0044_0001);
 
-const COMMAND: Attribute = Attribute(0x0009_0001);
+// Rows of each kind, without name and unit; every row names its own IDN and data area.
+const TIMING: Row<'static> = Row {
+    idn: Idn(0),
+    keeper: Keeper::Master,
+    name: b"",
+    attribute: Attribute(0x0011_0001),
+    unit: b"",
+    limits: Some(Limits {
+        lower: 0,
+        upper: 65500,
+    }),
+    most: 0,
+    start: 0,
+};
+
+const WORD: Row<'static> = Row {
+    keeper: Keeper::Drive,
+    attribute: Attribute(0x0001_0001),
+    limits: None,
+    ..TIMING
+};
+
+const LIST: Row<'static> = Row {
+    keeper: Keeper::Channel,
+    attribute: Attribute(0x0055_0001),
+    limits: None,
+    most: 60,
+    ..TIMING
+};
+
+const COMMAND: Row<'static> = Row {
+    attribute: Attribute(0x0009_0001),
+    limits: None,
+    ..TIMING
+};
 
 const CYCLE: Option<Limits> = Some(Limits {
     lower: 62,
-    upper: 65500,
-});
-
-const SLOT: Option<Limits> = Some(Limits {
-    lower: 0,
     upper: 65500,
 });
 
@@ -37,164 +65,92 @@ const SIZE: Option<Limits> = Some(Limits {
 
 pub static ROWS: [Row<'static>; 16] = [
     Row {
-        idn: Idn(1),
-        keeper: Keeper::Master,
-        name: b"",
-        attribute: TIMING,
-        unit: b"",
+        idn: T_NCYC,
         limits: CYCLE,
-        most: 0,
-        start: 0,
+        ..TIMING
     },
     Row {
-        idn: Idn(2),
-        keeper: Keeper::Master,
-        name: b"",
-        attribute: TIMING,
-        unit: b"",
+        idn: T_SCYC,
         limits: CYCLE,
-        most: 0,
         start: 2,
+        ..TIMING
     },
     Row {
-        idn: Idn(3),
+        idn: T1_MIN,
         keeper: Keeper::Drive,
-        name: b"",
-        attribute: TIMING,
-        unit: b"",
-        limits: SLOT,
-        most: 0,
         start: 4,
+        ..TIMING
     },
     Row {
-        idn: Idn(5),
+        idn: T5,
         keeper: Keeper::Drive,
-        name: b"",
-        attribute: TIMING,
-        unit: b"",
-        limits: SLOT,
-        most: 0,
         start: 6,
+        ..TIMING
     },
     Row {
-        idn: Idn(6),
-        keeper: Keeper::Master,
-        name: b"",
-        attribute: TIMING,
-        unit: b"",
-        limits: SLOT,
-        most: 0,
+        idn: T1,
         start: 8,
+        ..TIMING
     },
     Row {
-        idn: Idn(7),
-        keeper: Keeper::Master,
-        name: b"",
-        attribute: TIMING,
-        unit: b"",
-        limits: SLOT,
-        most: 0,
+        idn: T4,
         start: 10,
+        ..TIMING
     },
     Row {
-        idn: Idn(9),
-        keeper: Keeper::Master,
-        name: b"",
-        attribute: TIMING,
-        unit: b"",
+        idn: RECORD_POSITION,
         limits: POSITION,
-        most: 0,
         start: 12,
+        ..TIMING
     },
     Row {
-        idn: Idn(10),
-        keeper: Keeper::Master,
-        name: b"",
-        attribute: TIMING,
-        unit: b"",
+        idn: MDT_LENGTH,
         limits: SIZE,
-        most: 0,
         start: 14,
+        ..TIMING
     },
     Row {
-        idn: Idn(11),
-        keeper: Keeper::Drive,
-        name: b"",
-        attribute: WORD,
-        unit: b"",
-        limits: None,
-        most: 0,
+        idn: CLASS_1_DIAGNOSTIC,
         start: 16,
+        ..WORD
     },
     Row {
-        idn: Idn(14),
+        idn: INTERFACE_STATUS,
         keeper: Keeper::Channel,
-        name: b"",
-        attribute: WORD,
-        unit: b"",
-        limits: None,
-        most: 0,
         start: 18,
+        ..WORD
     },
     Row {
-        idn: Idn(19),
+        idn: PHASE_4_BLOCKS,
         keeper: Keeper::Nobody,
-        name: b"",
-        attribute: IDN_LIST,
-        unit: b"",
-        limits: None,
-        most: 60,
         start: 20,
+        ..LIST
     },
     Row {
-        idn: Idn(21),
-        keeper: Keeper::Channel,
-        name: b"",
-        attribute: IDN_LIST,
-        unit: b"",
-        limits: None,
-        most: 60,
+        idn: INVALID_FOR_PHASE_3,
         start: 80,
+        ..LIST
     },
     Row {
-        idn: Idn(22),
-        keeper: Keeper::Channel,
-        name: b"",
-        attribute: IDN_LIST,
-        unit: b"",
-        limits: None,
-        most: 60,
+        idn: INVALID_FOR_PHASE_4,
         start: 140,
+        ..LIST
     },
     Row {
-        idn: Idn(95),
-        keeper: Keeper::Channel,
-        name: b"",
+        idn: DIAGNOSTIC_TEXT,
         attribute: TEXT,
-        unit: b"",
-        limits: None,
-        most: 60,
         start: 200,
+        ..LIST
     },
     Row {
-        idn: Idn(127),
-        keeper: Keeper::Master,
-        name: b"",
-        attribute: COMMAND,
-        unit: b"",
-        limits: None,
-        most: 0,
+        idn: PHASE_3_CHECK,
         start: 260,
+        ..COMMAND
     },
     Row {
-        idn: Idn(128),
-        keeper: Keeper::Master,
-        name: b"",
-        attribute: COMMAND,
-        unit: b"",
-        limits: None,
-        most: 0,
+        idn: PHASE_4_CHECK,
         start: 262,
+        ..COMMAND
     },
 ];
 

@@ -1,9 +1,10 @@
 // The lines of the bench.
-ghost use Rattle.std.specs.Prelude.{◌≡◌, ◌+◌, ◌*◌, ◌<◌, true, false, ◌&&◌, MatchOption};
-ghost use Rattle.bench.specs.Lines.{is_hex, hex_value, info_line, record_line, line_read};
+ghost use Rattle.std.specs.Prelude.{◌≡◌, ◌+◌, ◌*◌, ◌<◌, true, false, ◌&&◌, Some, MatchOption};
+ghost use Rattle.bench.specs.Lines.{is_hex, hex_value, info_line, record_line, line_read, answer_text, shown_text};
 ghost use Rattle.bench.specs.Exchanges.{bench_blocks, exchanges, first_lines, first_shown};
 ghost use Rattle.drive.specs.Machines.{made};
 
+use refusal::Refusal;
 use std::fmt;
 
 // An MST with its INFO, or the record of an MDT: control word and service info.
@@ -21,9 +22,29 @@ pub struct Answer {
 }
 
 impl fmt::Display for Answer {
+    ghost output = { λ a. Some (answer_text a) };
+
     fn fmt<W: fmt::Write>(&self, f: &mut fmt::Formatter<W>) -> fmt::Result {
         let Answer { status, info } = *self;
         write!(f, "{status:04X} {info:04X}")
+    }
+}
+
+// What a line shows: the next AT, or the number of a refusal.
+#[derive(Clone, Copy, PartialEq, Eq, Debug)]
+pub struct Shown(pub Result<Answer, Refusal>);
+
+impl fmt::Display for Shown {
+    ghost output = { λ s. Some (shown_text s.0) };
+
+    fn fmt<W: fmt::Write>(&self, f: &mut fmt::Formatter<W>) -> fmt::Result {
+        match self.0 {
+            Ok(answer) => write!(f, "{answer}"),
+            Err(refusal) => {
+                let number = refusal.number();
+                write!(f, "R {number:02}")
+            }
+        }
     }
 }
 
@@ -52,7 +73,8 @@ fn record(control: u16, info: u16) -> Line
     Line::Record { control, info }
 }
 
-// The value of a capital hexadecimal digit; `to_digit` takes small letters too.
+// The value of a capital hexadecimal digit.
+// stays: a match by hand, since to_digit and from_str_radix take small letters too.
 fn hex(c: u8) -> Option<u8>
     ensures { MatchOption result (is_hex c ≡ false) (λ v. (is_hex c ≡ true) × (v ≡ hex_value c) × (v < 16)) }
 {

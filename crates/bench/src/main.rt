@@ -9,7 +9,7 @@ ghost use Rattle.bench.specs.Exchanges.{has_place, mdt_of, telegram_of, after_se
 ghost use Rattle.drive.specs.Machines.{view};
 
 use drive::drive::Drive;
-use line::{Answer, Line};
+use line::{Answer, Line, Shown};
 use refusal::Refusal;
 use rows::plan::Plan;
 use std::alloc::{AllocError, Global};
@@ -75,11 +75,6 @@ fn exchange<S: Store>(drive: &mut Drive<S>, line: Line, telegram: &[u8]) -> Resu
     next_at(drive)
 }
 
-fn refused(rt: &HostRuntime, refusal: Refusal) -> io::Result<()> {
-    let number = refusal.number();
-    println!(rt; "R {number:02}")
-}
-
 // Answers every line of the input, whatever bytes it has.
 fn serve<S: Store>(rt: &HostRuntime, drive: &mut Drive<S>) -> io::Result<()> {
     let heap = rt.alloc();
@@ -90,10 +85,7 @@ fn serve<S: Store>(rt: &HostRuntime, drive: &mut Drive<S>) -> io::Result<()> {
             continue;
         };
         let telegram = telegram(heap, drive, line)?;
-        match exchange(drive, line, telegram.as_slice()) {
-            Ok(answer) => rt.println(answer)?,
-            Err(refusal) => refused(rt, refusal)?,
-        }
+        rt.println(Shown(exchange(drive, line, telegram.as_slice())))?;
     }
     Ok(())
 }
@@ -102,7 +94,7 @@ fn serve<S: Store>(rt: &HostRuntime, drive: &mut Drive<S>) -> io::Result<()> {
 fn bench<S: Store + Drop>(rt: &HostRuntime, store: S) -> io::Result<()> {
     match Drive::make(1, store) {
         Ok(mut drive) => serve(rt, &mut drive),
-        Err((refusal, _)) => refused(rt, refusal),
+        Err((refusal, _)) => rt.println(Shown(Err(refusal))),
     }
 }
 

@@ -26,6 +26,11 @@ const LONG_LIST: Attribute = Attribute(0x0026_0001);
 
 const COMMAND: Attribute = Attribute(0x0009_0001);
 
+const CYCLE: Option<Limits> = Some(Limits {
+    lower: 62,
+    upper: 65500,
+});
+
 const VALID: u16 = 0;
 
 const INVALID: u16 = 0x0100;
@@ -38,10 +43,7 @@ pub static TIMINGS: [Row<'static>; 3] = [
         name: b"NC cycle time",
         attribute: UNSIGNED,
         unit: b"us",
-        limits: Some(Limits {
-            lower: 62,
-            upper: 65500,
-        }),
+        limits: CYCLE,
         most: 0,
         start: 0,
     },
@@ -51,10 +53,7 @@ pub static TIMINGS: [Row<'static>; 3] = [
         name: b"Ring cycle time",
         attribute: UNSIGNED,
         unit: b"us",
-        limits: Some(Limits {
-            lower: 62,
-            upper: 65500,
-        }),
+        limits: CYCLE,
         most: 0,
         start: 2,
     },
