@@ -40,15 +40,3 @@ pub fn check_value<S: Store>(
         _ => Ok(()),
     }
 }
-
-// The same fault, as an option.
-pub fn value_fault<S: Store>(
-    store: &S,
-    attribute: Attribute,
-    limits: Option<Limits>,
-    bytes: &[u8],
-) -> Option<ValueFault>
-    ensures { result ≡ value_fault (S.Store.blocks store.now) attribute.0 limits bytes.now }
-{
-    check_value(store, attribute, limits, bytes).err()
-}
