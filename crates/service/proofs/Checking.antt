@@ -1,5 +1,5 @@
 -- A check that has put its names into its list. Assumes nothing.
-use Rattle.std.proofs.Common.{◌≡◌, ℕ, Bool, true, false, cond, eqb, List, length, IfSome, Some, None, Option, refl, ap, ◌∙◌, arith}
+use Rattle.std.proofs.Common.{◌≡◌, ℕ, Bool, true, cond, eqb, List, length, IfSome, Some, None, Option, ap, ◌∙◌, arith}
 use Rattle.std.specs.Option.{option_map}
 use Rattle.block.specs.Blocks.{Block}
 use Rattle.block.specs.Lists.{place_of}

@@ -1,5 +1,5 @@
 -- A step on an element from 2 to 6. Assumes nothing.
-use Rattle.std.proofs.Common.{◌≡◌, ℕ, Bool, true, false, Some, Option, ap, ◌∙◌}
+use Rattle.std.proofs.Common.{◌≡◌, ℕ, Bool, true, false, Some, Option}
 use Rattle.std.specs.List.{slice_get}
 use Rattle.block.specs.declared.idn.Idn.{Idn}
 use Rattle.channel.specs.declared.control.Element.{Element}

@@ -10,7 +10,7 @@ use Rattle.channel.specs.Writes.{is_locked, write_rule}
 use Rattle.service.specs.declared.link.Head.{Head}
 use Rattle.channel.specs.declared.control.Element.TheVariants.{Content}
 use Rattle.service.specs.States.{State, head_of, next_word, words_so_far, going}
-use Rattle.service.specs.Steps.{finish, refused, write_fault, unless_fault, write_word, write_step, with_block}
+use Rattle.service.specs.Steps.{finish, refused, unless_fault, write_step, with_block}
 use Rattle.service.specs.Words.{written_length, written_data, pushed}
 
 passed : (o : Option Digit) → Ok tt ≡ ok_unless o → o ≡ None

@@ -3,6 +3,7 @@ use Rattle.std.specs.Prelude.{ℕ, ◌%◌, Bool, false, cond, not, ◌&&◌, Li
 use Rattle.block.specs.Numbers.{pattern, words_of}
 use Rattle.block.specs.Blocks.{Block, is_invalid}
 use Rattle.block.specs.Lists.{block_of}
+use Rattle.block.specs.Named.{t_ncyc, t_scyc, t1min, t5, t1, t4, record_position, mdt_length, phase_4_blocks}
 use Rattle.channel.specs.declared.timing.Timings.{Timings}
 use Rattle.channel.specs.Timings.{timing_names}
 
@@ -13,7 +14,7 @@ valid_value (Some b) = cond (is_invalid b) None (Some (pattern b.content % 0x1_0
 
 -- the ring's timings, each if it is valid
 abbrev pub timings_of : List Block → Timings
-timings_of bs = record { ncyc = valid_value (block_of bs 1); scyc = valid_value (block_of bs 2); least = valid_value (block_of bs 3); t5 = valid_value (block_of bs 5); t1 = valid_value (block_of bs 6); t4 = valid_value (block_of bs 7); position = valid_value (block_of bs 9); size = valid_value (block_of bs 10) }
+timings_of bs = record { ncyc = valid_value (block_of bs t_ncyc); scyc = valid_value (block_of bs t_scyc); least = valid_value (block_of bs t1min); t5 = valid_value (block_of bs t5); t1 = valid_value (block_of bs t1); t4 = valid_value (block_of bs t4); position = valid_value (block_of bs record_position); size = valid_value (block_of bs mdt_length) }
 
 -- an entry of S-0-0019 that is not 0 and whose block is invalid
 abbrev pub is_invalid_block : Option Block → Bool
@@ -39,4 +40,4 @@ names_for_phase_3 bs = timing_names (timings_of bs)
 
 -- what S-0-0128 names
 abbrev pub names_for_phase_4 : List Block → List ℕ
-names_for_phase_4 bs = invalid_among bs (entries_of (block_of bs 19))
+names_for_phase_4 bs = invalid_among bs (entries_of (block_of bs phase_4_blocks))

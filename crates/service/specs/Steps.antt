@@ -5,6 +5,7 @@ use Rattle.block.specs.declared.idn.Idn.{Idn}
 use Rattle.block.specs.Attributes.{is_command}
 use Rattle.block.specs.Blocks.{Block}
 use Rattle.block.specs.Lists.{place_of, block_of}
+use Rattle.block.specs.Named.{phase_3_check, phase_4_check, invalid_for_phase_3, invalid_for_phase_4}
 use Rattle.block.specs.Values.{value_fault, cause_of}
 use Rattle.channel.specs.declared.control.Element.TheVariants.{Closing, Number, Name, Attribute, Unit, Lower, Upper, Content}
 use Rattle.channel.specs.declared.control.Element.{Element}
@@ -75,8 +76,8 @@ pub record Check : Type 0 where
 -- the checks: S-0-0127 names in S-0-0021, S-0-0128 in S-0-0022
 abbrev pub check_of : ℕ → List Block → Option Check
 check_of idn bs =
-    cond (idn == 127) (Some (record { list = 21; names = names_for_phase_3 bs }))
-    (cond (idn == 128) (Some (record { list = 22; names = names_for_phase_4 bs })) None)
+    cond (idn == phase_3_check) (Some (record { list = invalid_for_phase_3; names = names_for_phase_3 bs }))
+    (cond (idn == phase_4_check) (Some (record { list = invalid_for_phase_4; names = names_for_phase_4 bs })) None)
 
 abbrev pub is_empty : List ℕ → Bool
 is_empty [] = true

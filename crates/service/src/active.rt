@@ -1,28 +1,22 @@
 // Which commands are under way.
-ghost use Rattle.std.specs.Prelude.{◌≡◌, not, ◌&&◌, ◌==◌};
-ghost use Rattle.std.specs.List.{slice_get};
+ghost use Rattle.std.specs.Prelude.{◌≡◌};
 ghost use Rattle.block.specs.Lists.{block_of};
 ghost use Rattle.service.specs.Names.{is_to_name, valid_value};
-ghost use Rattle.service.specs.Steps.{is_active_command, others_active, is_recalled};
+ghost use Rattle.service.specs.Steps.{others_active, is_recalled};
 
 use block::idn::Idn;
 use block::value::word_at;
 use channel::command::{CommandStatus, is_active};
-use store::scan::block_of;
+use store::scan::{Views, block_of};
 use store::store::Store;
-
-// Whether the block at a place is a command that is interrupted or under way.
-fn is_active_at<S: Store>(store: &S, place: usize) -> bool
-    ensures { result ≡ is_active_command (slice_get (S.Store.blocks store.now) place) }
-{
-    store.block(place).is_some_and(|view| view.attribute.is_command() && is_active(view.status))
-}
 
 // Whether another command than the one at a place is interrupted or under way.
 pub(crate) fn others_active<S: Store>(store: &S, place: usize) -> bool
     ensures { result ≡ others_active place (S.Store.blocks store.now) }
 {
-    (0..store.count()).any(|i| i != place && is_active_at(store, i))
+    Views::of(store).enumerate().any(|(i, view)| i != place
+        && view.attribute.is_command()
+        && is_active(view.status))
 }
 
 // Whether an order is out for a command at status 0.

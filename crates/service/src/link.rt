@@ -1,13 +1,15 @@
 // What the channel holds: the handshake, the open block, a transfer and the last answer.
 ghost use Rattle.std.specs.Prelude.{◌≡◌};
+ghost use Rattle.block.specs.Blocks.{seen};
 ghost use Rattle.channel.specs.Controls.{element_number};
-ghost use Rattle.service.specs.States.{info_of, goes_on};
+ghost use Rattle.service.specs.States.{info_of, goes_on, head_of};
 
 use block::attribute::Attribute;
 use block::idn::Idn;
 use block::keeper::Keeper;
 use block::limits::Limits;
 use block::phase::Phase;
+use block::view::View;
 use channel::code::Code;
 use channel::control::Element;
 
@@ -95,4 +97,19 @@ pub struct Head {
     pub attribute: Attribute,
     pub limits: Option<Limits>,
     pub most: u16,
+}
+
+impl From<View<'_>> for Head {
+    ghost from_gives = { λ view head. head ≡ head_of (seen view) };
+
+    fn from(view: View<'_>) -> Head {
+        Head {
+            idn: view.idn,
+            keeper: view.keeper,
+            status: view.status,
+            attribute: view.attribute,
+            limits: view.limits,
+            most: view.most,
+        }
+    }
 }

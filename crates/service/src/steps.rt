@@ -132,15 +132,7 @@ impl<S: Store> Service<S> {
     pub fn head_at(&self, place: usize) -> Option<Head>
         ensures { result ≡ option_map head_of (slice_get (S.Store.blocks self.now.store) place) }
     {
-        let view = self.store.block(place)?;
-        Some(Head {
-            idn: view.idn,
-            keeper: view.keeper,
-            status: view.status,
-            attribute: view.attribute,
-            limits: view.limits,
-            most: view.most,
-        })
+        self.store.block(place).map(Head::from)
     }
 
     // What a step comes to: element, direction and channel state decide.
