@@ -1,4 +1,4 @@
--- What a sheet shows at a place, and the bounds of what it shows. Assumes nothing.
+-- What a sheet shows when it is made and at a place. Assumes nothing.
 use Rattle.std.proofs.Common.{◌≡◌, ℕ, ◌+◌, ◌<◌, ◌≤◌, Bool, true, false, ◌&&◌, List, length, Some, None, Option, sym, ap, ◌∙◌, ⊎_elim, arith, Bor}
 use Rattle.std.specs.List.{slice_get, HoldsAt}
 use Rattle.std.specs.Option.{MatchOption}
@@ -6,7 +6,7 @@ use Rattle.std.proofs.lemmas.Option.{slice_get_past}
 use Rattle.std.proofs.lemmas.Bool.{cases_Bool, le-leb, eq-eqb, and_from}
 use Rattle.std.proofs.lemmas.Bool.Decides.{nat_tests}
 use Rattle.block.specs.Blocks.{is_kept, length_fits}
-use Rattle.block.specs.Lists.{may_replace, may_mark, most_blocks, all_kept}
+use Rattle.block.specs.Lists.{may_replace, may_mark, most_blocks}
 use Rattle.rows.specs.declared.plan.Plan.{Plan}
 use Rattle.rows.specs.declared.row.Row.{Row}
 use Rattle.rows.specs.declared.row.State.{State}
@@ -15,7 +15,7 @@ use Rattle.rows.specs.Rows.{laid_out, start_at}
 use Rattle.rows.specs.Shown.{shown_length, block_of, states_fit, shown_blocks, row_blocks}
 use Rattle.rows.specs.Sheets.{sheet_blocks}
 use Rattle.rows.proofs.Laid.{row_at}
-use Rattle.rows.proofs.Meaning.{state_at, length-blocks, nth_blocks, blocks_kept, match_parts, row_within, shown_area, states_as_many, start_at_lem}
+use Rattle.rows.proofs.Meaning.{state_at, length-blocks, nth_blocks, match_parts, row_within, shown_area, states_as_many, start_at_lem}
 
 -- checked rows with states and bytes show what these mean
 pub made_means : (p : Plan) (ss : List State) (bytes : List ℕ) (fits : Bool) → fits ≡ states_fit p.rows.now ss
@@ -54,14 +54,6 @@ module _ (s : Sheet) where
   pub sheet_room : (i n : ℕ) (r : Row) → i < length s.plan.rows.now → r ≡ row_at s.plan.rows.now i
       → (may_replace (slice_get (sheet_blocks s) i) n ≡ (is_kept r.keeper && length_fits r.attribute.0 r.most n)) × (r.start ≡ start_at s.plan.rows.now i)
   sheet_room i n r h e = rw e (ap (λ b. may_replace b n) (sheet_nth i h), sym (start_at_lem s.plan.rows.now i h))
-
-  pub sheet_few : length (sheet_blocks s) ≤ most_blocks
-  sheet_few = omega (arith, length-blocks s.plan.rows.now s.states.now s.bytes.now many_states, s.plan.few)
-
-  pub sheet_kept : all_kept (sheet_blocks s) ≡ true
-  sheet_kept =
-      let in' = (match_parts s.plan.rows.now s.states.now s.bytes.now s.matched).1 in
-      blocks_kept s.plan.rows.now s.states.now s.bytes.now 0 s.plan.laid (omega arith)
 
   -- a status may be set where a row is found and somebody keeps it
   pub sheet_marks : (i : ℕ) (o : Option (Bor Row)) (b : Bool)
