@@ -55,10 +55,9 @@ fn write_refusal(view: View<'_>, element: Element) -> Digit
 pub(crate) fn next_word(transfer: Option<Transfer>, element: Element, write: bool) -> usize
     ensures { result ≡ next_word transfer (element_number element) write }
 {
-    match transfer {
-        Some(t) if t.is_on(element, write) => usize::from(t.count) + 1,
-        _ => 1,
-    }
+    transfer
+        .filter(|t| t.is_on(element, write))
+        .map_or(1, |t| usize::from(t.count) + 1)
 }
 
 impl<S: Store> Service<S> {
