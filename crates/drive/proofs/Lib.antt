@@ -1,2 +1,3 @@
 mod Resets
 mod Checking
+mod Reporting

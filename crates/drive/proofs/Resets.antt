@@ -1,12 +1,11 @@
 -- Commands that are reset one by one. Assumes nothing.
-use Rattle.std.proofs.Common.{◌≡◌, ℕ, zero, suc, ◌+◌, ◌<◌, ◌≤◌, true, false, List, [], ◌∷◌, ◌++◌, map, length, take, drop, refl, ap, ◌∙◌, append-nil, arith}
+use Rattle.std.proofs.Common.{◌≡◌, ℕ, zero, suc, ◌+◌, ◌<◌, true, false, List, [], ◌∷◌, ◌++◌, map, length, take, drop, refl, ap, ◌∙◌, arith}
 use Rattle.std.specs.List.{slice_get}
-use Rattle.std.proofs.lemmas.List.{take_all, drop_all}
 use Rattle.std.proofs.lemmas.Bool.Decides.{nat_tests}
 use Rattle.block.specs.Blocks.{Block}
 use Rattle.block.specs.Lists.{changed}
 use Rattle.service.specs.Changes.{accepted}
-use Rattle.drive.specs.Phases.{is_command_block, reset_block, commands_reset}
+use Rattle.drive.specs.Phases.{is_command_block, reset_block}
 
 -- one block more is reset
 pub reset_more : (bs : List Block) (i : ℕ) → i < length bs
@@ -16,9 +15,6 @@ reset_more (b ∷ bs) zero h = refl
 reset_more (b ∷ bs) (suc i) h =
     ap (λ l. reset_block b ∷ l) (reset_more bs i (omega arith))
     ∙ ap (λ n. map reset_block (take n (b ∷ bs)) ++ drop n (b ∷ bs)) (let e : suc (i + 1) ≡ suc i + 1 = omega arith in e)
-
-pub reset_all : (bs : List Block) (i : ℕ) → length bs ≤ i → map reset_block (take i bs) ++ drop i bs ≡ commands_reset bs
-reset_all bs i h = rw (take_all i bs h, drop_all i bs h) (append-nil (map reset_block bs))
 
 accepted-suc : (b : Block) (bs : List Block) (i : ℕ) (bytes : List ℕ) → accepted (b ∷ bs) (suc i) bytes ≡ b ∷ accepted bs i bytes
 accepted-suc b bs i bytes = grind (arith, nat_tests)
