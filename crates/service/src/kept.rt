@@ -1,5 +1,5 @@
 // The drive's fixed memory for the words of one transfer.
-ghost use Rattle.std.specs.Prelude.{◌≡◌, [], length, ◌==◌};
+ghost use Rattle.std.specs.Prelude.{◌≡◌, ◌≤◌, [], length, ◌==◌};
 ghost use Rattle.service.specs.Words.{pushed, written_length, written_data};
 
 use block::attribute::Attribute;
@@ -52,7 +52,8 @@ impl Kept {
     }
 
     pub fn bytes(&self) -> &[u8]
-        ensures { result.now ≡ self.now }
+        ensures value { result.now ≡ self.now }
+        ensures within { length self.now ≤ 1024 }
     {
         &self.cells[..self.count]
     }
