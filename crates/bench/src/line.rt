@@ -8,6 +8,7 @@ use refusal::Refusal;
 use std::fmt;
 
 // An MST with its INFO, or the record of an MDT: control word and service info.
+// stays: an enum of its own, since neither telegram is the lack or the failure of the other.
 #[derive(Clone, Copy, PartialEq, Eq, Debug)]
 pub enum Line {
     Info(u8),

@@ -1,9 +1,10 @@
 // The error codes of the service channel.
 ghost use Rattle.std.specs.Prelude.{◌≡◌};
 ghost use Rattle.block.specs.Values.{cause_of};
-ghost use Rattle.channel.specs.Codes.{digit_number};
+ghost use Rattle.channel.specs.Codes.{digit_number, code_of};
+ghost use Rattle.channel.specs.Controls.{element_number};
 
-pub use crate::fault::Code;
+use crate::control::Element;
 use block::value::ValueFault;
 
 // The last digit of a code: what is wrong.
@@ -38,5 +39,20 @@ impl From<ValueFault> for Digit {
             ValueFault::TooHigh => Digit::TooHigh,
             ValueFault::UnknownIdn => Digit::Wrong,
         }
+    }
+}
+
+// What the channel answers in place of a word: what is wrong, and at which element.
+#[derive(Clone, Copy, PartialEq, Eq, Debug)]
+pub struct Code {
+    pub element: Element,
+    pub digit: Digit,
+}
+
+impl Code {
+    pub fn number(self) -> u16
+        ensures { result ≡ code_of (element_number self.element) self.digit }
+    {
+        self.element.number() * 0x1000 + self.digit.number()
     }
 }

@@ -16,6 +16,7 @@ use block::view::{NAME_MOST, UNIT_MOST, View};
 use std::cmp::Ordering;
 
 // Plain words of one bit pattern, or byte count, maximum and bytes.
+// stays: an enum of its own, since both are ways to lie in words, and neither is the lack or the failure of the other.
 #[derive(Clone, Copy, PartialEq, Eq, Debug)]
 pub enum Layout<'v> {
     Plain { words: u16, pattern: u32 },
@@ -92,6 +93,7 @@ impl Layout<'_> {
     pub fn word_at(&self, k: usize) -> u16
         ensures { result ≡ word_at (shape self.now) k }
     {
+        // stays: low and high word by arithmetic, since to_le_bytes would take a pattern apart only to join its bytes again
         match (self, k) {
             (Layout::Plain { pattern, .. }, 1) => (*pattern % 0x1_0000) as u16,
             (Layout::Plain { pattern, .. }, _) => (*pattern / 0x1_0000) as u16,

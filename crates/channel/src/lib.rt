@@ -4,7 +4,6 @@
 pub mod code;
 pub mod command;
 pub mod control;
-pub mod fault;
 pub mod layout;
 pub mod timing;
 pub mod write;

@@ -9,6 +9,7 @@ use block::idns::{
 use block::keeper::Keeper;
 
 // What the attribute of a demanded block says.
+// stays: an enum of its own, since a command is a form too, and no lack of one.
 #[derive(Clone, Copy)]
 pub enum Form {
     Parameter(LengthCode, DataType),

@@ -22,6 +22,7 @@ fn printable(heap: Global, bytes: &[u8]) -> Result<String, AllocError> {
 fn item_text(heap: Global, attribute: Attribute, pattern: u32) -> Result<String, AllocError> {
     match attribute.data_type() {
         Some(DataType::Binary | DataType::Hexadecimal) => format!(in heap; "0x{pattern:X}"),
+        // stays: the low word by arithmetic, since the bytes of the pattern would be taken apart only to be joined again
         Some(DataType::IdnType) => {
             let idn = Idn((pattern % 0x1_0000) as u16);
             format!(in heap; "{idn}")

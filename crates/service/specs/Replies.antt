@@ -1,7 +1,7 @@
 -- What the channel is after the reply to a step: one that is a word, or one that is an error. Assumes nothing.
 use Rattle.std.specs.Prelude.{ℕ, true, false, cond, [], Some, None, Ok, Err, Option, Result}
 use Rattle.channel.specs.declared.code.Digit.{Digit}
-use Rattle.channel.specs.declared.fault.Code.{Code}
+use Rattle.channel.specs.declared.code.Code.{Code}
 use Rattle.channel.specs.Codes.{code_of}
 use Rattle.channel.specs.Controls.{element_number}
 use Rattle.service.specs.declared.link.Reply.{Reply}

@@ -2,7 +2,7 @@
 use Rattle.std.specs.Prelude.{ℕ, ◌+◌, Bool, true, false, cond, ◌&&◌, List, [], Some, None, Ok, Err, Option, Result, ◌==◌}
 use Rattle.std.specs.Result.{is_err}
 use Rattle.block.specs.Blocks.{Block}
-use Rattle.channel.specs.declared.fault.Code.{Code}
+use Rattle.channel.specs.declared.code.Code.{Code}
 use Rattle.channel.specs.Codes.{code_of}
 use Rattle.channel.specs.Controls.{element_number}
 use Rattle.service.specs.declared.link.Head.{Head}
