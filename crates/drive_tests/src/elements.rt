@@ -1,11 +1,8 @@
 // The elements of a block, read and written word by word in phase 2.
 use crate::play::Sent::{Mdt, Mst};
-use crate::play::{At, Step, play};
-use crate::sample::{ROWS, memory, states};
+use crate::play::{At, Step, play_sample};
 use refusal::Refusal;
-use rows::plan::Plan;
 use std::test::Fail;
-use table::table::Table;
 
 // Phase 2, step by step.
 static STEPS: [Step; 42] = [
@@ -69,8 +66,5 @@ static STEPS: [Step; 42] = [
 
 #[test]
 fn reads_and_writes_elements(rt: HostRuntime) -> Result<(), Fail> {
-    let plan = Plan::new(&ROWS);
-    let mut states = states();
-    let mut bytes = memory();
-    play(&rt, Table::new(&plan, &mut states, &mut bytes), &STEPS)
+    play_sample(&rt, &STEPS)
 }

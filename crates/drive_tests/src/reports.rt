@@ -1,6 +1,6 @@
 // Reports of the firmware, and the text that follows S-0-0011.
 use crate::play::Sent::{Mdt, Mst, Report};
-use crate::play::{At, Step, make, play};
+use crate::play::{At, Step, make, play_sample};
 use crate::sample::{ROWS, memory, states};
 use block::idn::Idn;
 use refusal::{Cause, Refusal};
@@ -47,10 +47,7 @@ static STEPS: [Step; 26] = [
 
 #[test]
 fn reports_set_the_diagnostic_text(rt: HostRuntime) -> Result<(), Fail> {
-    let plan = Plan::new(&ROWS);
-    let mut states = states();
-    let mut bytes = memory();
-    play(&rt, Table::new(&plan, &mut states, &mut bytes), &STEPS)
+    play_sample(&rt, &STEPS)
 }
 
 // What a drive over a store says to a report.
@@ -58,18 +55,22 @@ fn report_over<S: Store + Drop>(store: S, idn: u16, bytes: &[u8]) -> Result<(), 
     make(1, store)?.report(Idn(idn), bytes)
 }
 
-fn report(idn: u16, bytes: &[u8]) -> Result<(), Refusal> {
+// Why a report is refused.
+fn report(idn: u16, bytes: &[u8]) -> Option<Refusal> {
     let plan = Plan::new(&ROWS);
     let mut states = states();
     let mut memory = memory();
-    report_over(Table::new(&plan, &mut states, &mut memory), idn, bytes)
+    report_over(Table::new(&plan, &mut states, &mut memory), idn, bytes).err()
 }
 
 #[test]
 fn reports_of_a_wrong_length(rt: HostRuntime) {
-    assert_eq!(rt; report(11, &[8]), Err(Refusal::Value(Cause::TooShort)));
-    assert_eq!(rt; report(11, &[8, 0, 0]), Err(Refusal::Value(Cause::TooLong)));
-    assert_eq!(rt; report(11, &[8, 0]), Ok(()));
+    assert_eq!(rt; report(11, &[8]), Some(Refusal::Value(Cause::TooShort)));
+    assert_eq!(rt;
+        report(11, &[8, 0, 0]),
+        Some(Refusal::Value(Cause::TooLong))
+    );
+    assert_eq!(rt; report(11, &[8, 0]), None);
     assert_eq!(rt; Refusal::Unknown.number(), 10);
     assert_eq!(rt; Refusal::Keeper.number(), 11);
     assert_eq!(rt; Refusal::Value(Cause::TooShort).number(), 13);
