@@ -5,6 +5,7 @@ use Rattle.std.proofs.lemmas.List.{take_more}
 use Rattle.block.specs.declared.idn.Idn.{Idn}
 use Rattle.block.specs.Lists.{place_of, block_at, block_of, all_kept}
 use Rattle.block.specs.Numbers.{word, words_of}
+use Rattle.block.proofs.Words.{words_pair}
 use Rattle.block.proofs.Lists.{nth_kept}
 use Rattle.block.specs.Blocks.{Block}
 use Rattle.channel.specs.Timings.{named}
@@ -62,12 +63,6 @@ row_named rs i d b w k k' in' few eb ew e short after =
     let more : rows_named (take (i + 1) rs) ≡ rows_named (take i rs) ++ named w b =
     ap rows_named (take_more rs i d in') ∙ rows_named-append (take i rs) (row ∷ []) ∙ ap (λ l. rows_named (take i rs) ++ l) last in
     (next.0 ∙ ap word_bytes (sym more), omega (arith, next.1))
-
-words_pair : (pair rest : List ℕ) → length pair ≡ 2 → words_of (pair ++ rest) ≡ word (slice_index pair 0) (slice_index pair 1) ∷ words_of rest
-words_pair [] rest h = absurd (omega (arith, h))
-words_pair (a ∷ []) rest h = absurd (omega (arith, h))
-words_pair (a ∷ (b ∷ [])) rest h = refl
-words_pair (a ∷ (b ∷ (c ∷ cs))) rest h = absurd (omega (arith, h))
 
 -- an entry of S-0-0019 was looked at, and named if it is to be
 pub entry_named : (bs : List Block) (pair rest all k k' total : List ℕ) (w : ℕ) (b : Bool) → length pair ≡ 2 → all ≡ pair ++ rest

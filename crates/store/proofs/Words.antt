@@ -1,21 +1,16 @@
 -- Bytes in pairs are the words that they stand for. Assumes nothing.
-use Rattle.std.proofs.Common.{◌≡◌, ℕ, ◌<◌, List, [], ◌∷◌, ◌++◌, length, slice_index, refl, ap, ◌∙◌, subst, Bor, arith}
+use Rattle.std.proofs.Common.{◌≡◌, ℕ, ◌<◌, List, [], ◌∷◌, length, slice_index, refl, ap, ◌∙◌, subst, Bor, arith}
 use Rattle.std.specs.Slice.Iter.{chunks_exact_rest, chunks_exact_size, chunks_exact_steps}
 use Rattle.std.specs.declared.slice.ChunksExact.{ChunksExact}
 use Rattle.std.proofs.lemmas.Iterator.{YieldsList}
 use Rattle.std.proofs.lemmas.Iterator.Splits.{YieldsList-from_shown_while}
 use Rattle.block.specs.Numbers.{word, words_of}
+use Rattle.block.proofs.Words.{words_pair}
 
 no_words : (bytes : List ℕ) → length bytes < 2 → length (words_of bytes) ≡ 0
 no_words [] h = refl
 no_words (a ∷ []) h = refl
 no_words (a ∷ (b ∷ bs)) h = absurd (omega arith)
-
-words_pair : (pair rest : List ℕ) → length pair ≡ 2 → words_of (pair ++ rest) ≡ word (slice_index pair 0) (slice_index pair 1) ∷ words_of rest
-words_pair [] rest h = absurd (omega (arith, h))
-words_pair (a ∷ []) rest h = absurd (omega (arith, h))
-words_pair (a ∷ (b ∷ [])) rest h = refl
-words_pair (a ∷ (b ∷ (c ∷ cs))) rest h = absurd (omega (arith, h))
 
 -- the word of a pair that `chunks_exact(2)` gives
 abbrev pub pair_word : Bor (List ℕ) → ℕ

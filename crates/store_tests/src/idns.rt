@@ -24,6 +24,26 @@ fn refuses_other_texts(rt: HostRuntime) {
 }
 
 #[test]
+fn parses_texts(rt: HostRuntime) {
+    assert_eq!(rt; "P-5-1073".parse::<Idn>(), Ok(Idn(0xd431)));
+    assert_eq!(rt; "S-8-0001".parse::<Idn>(), Err(IdnFault::Set));
+    assert_eq!(rt; "".parse::<Idn>(), Err(IdnFault::Form));
+}
+
+#[test]
+fn says_what_is_wrong_with_a_text(rt: HostRuntime) -> Result<(), Fail> {
+    let heap = rt.alloc();
+    for (fault, text) in [
+        (IdnFault::Form, "not of the form S-0-0127"),
+        (IdnFault::Set, "the set is above 7"),
+        (IdnFault::Number, "the number is above 4095"),
+    ] {
+        assert_eq!(rt; format!(in heap; "{fault}")?.as_str(), text);
+    }
+    Ok(())
+}
+
+#[test]
 fn shows_idns(rt: HostRuntime) -> Result<(), Fail> {
     let heap = rt.alloc();
     let standard = Idn(127);
