@@ -14,7 +14,7 @@ const TEXT: Attribute = Attribute(0x0044_0001);
 
 // Rows of each kind, without name and unit; every row names its own IDN and data area.
 const TIMING: Row<'static> = Row {
-    idn: Idn(0),
+    idn: Idn::NONE,
     keeper: Keeper::Master,
     name: b"",
     attribute: Attribute(0x0011_0001),

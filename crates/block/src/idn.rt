@@ -18,6 +18,9 @@ pub enum IdnFault {
 }
 
 impl Idn {
+    // The number that names no block, as in an empty entry of a list.
+    pub const NONE: Idn = Idn(0);
+
     // True for a product parameter (P), false for one of the standard (S).
     pub fn is_product(self) -> bool
         ensures { result ≡ is_product self.0 }

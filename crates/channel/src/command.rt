@@ -114,6 +114,7 @@ pub fn runs_in(idn: Idn, phase: Phase) -> bool
 }
 
 // The status of a command after a word of the master.
+// stays: five parameters, which meet at this one rule and nowhere else
 pub fn command_status(
     word: u16,
     status: u16,

@@ -10,6 +10,7 @@ pub struct Misses {
     pub mdt: bool,
 }
 
+// stays: no Model, for the reason that stands at Service
 #[derive(Drop)]
 pub struct Drive<S> {
     pub(crate) address: u8,

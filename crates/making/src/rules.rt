@@ -25,7 +25,7 @@ pub fn address_fits(address: u8) -> bool
 pub fn first_unordered<S: Store>(store: &S) -> Option<Idn>
     ensures { result ≡ first_unordered 0 (S.Store.blocks store.now) }
 {
-    let mut before = Idn(0);
+    let mut before = Idn::NONE;
     for view in Views::of(store) {
         if view.idn <= before {
             return Some(view.idn);

@@ -40,5 +40,5 @@ pub(crate) fn valid_value<S: Store>(store: &S, idn: Idn) -> Option<u16>
 pub(crate) fn is_to_name<S: Store>(store: &S, idn: Idn) -> bool
     ensures { result ≡ is_to_name (S.Store.blocks store.now) idn.0 }
 {
-    idn != Idn(0) && block_of(store, idn).is_some_and(|view| view.is_invalid())
+    idn != Idn::NONE && block_of(store, idn).is_some_and(|view| view.is_invalid())
 }

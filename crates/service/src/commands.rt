@@ -38,6 +38,7 @@ fn command_verdict<S: Store>(
 }
 
 // Runs a check, if the IDN is that of one: keeps its names, and gives the IDN of its list.
+// stays: a match on two constants, since a table of closures would be longer and the two checks are all there are
 fn run_check<S: Store>(store: &S, kept: &mut Kept, idn: Idn) -> Option<Idn>
     ensures list { option_map (λ i. i.0) result ≡ option_map (λ c. c.list) (check_of idn.0 (S.Store.blocks store.now)) }
     ensures names { IfSome (check_of idn.0 (S.Store.blocks store.now)) (λ c. kept.new ≡ word_bytes c.names) }

@@ -13,7 +13,7 @@ use block::value::{ValueFault, check_range, pattern_of, word_at};
 pub fn idn_known<S: Store>(store: &S, idn: Idn) -> bool
     ensures { result ≡ idn_known (S.Store.blocks store.now) idn.0 }
 {
-    idn == Idn(0) || store.find(idn).is_some()
+    idn == Idn::NONE || store.find(idn).is_some()
 }
 
 // Whether every IDN that the bytes name is 0 or that of a block of the store.

@@ -56,6 +56,7 @@ fn shows_idns(rt: HostRuntime) -> Result<(), Fail> {
 #[test]
 fn reads_back_every_idn(rt: HostRuntime) -> Result<(), Fail> {
     let heap = rt.alloc();
+    // stays: a range, since every number is an IDN
     for n in 0..=u16::MAX {
         let idn = Idn(n);
         let text = format!(in heap; "{idn}")?;
