@@ -23,7 +23,7 @@ def wide(most):
 
 def two_variants():
     for f, text in TEXT.items():
-        for m in re.finditer(r'\benum (\w+)[^{]*\{(.*?)\n\}', text, re.S):
+        for m in re.finditer(r'^(?:pub )?enum (\w+)[^{]*\{(.*?)\n\}', text, re.S | re.M):
             variants = re.findall(r'^    ([A-Z]\w*)', m.group(2), re.M)
             if len(variants) == 2:
                 yield f'{f}:{text.count(chr(10), 0, m.start()) + 1}: {m.group(1)} {variants}'
@@ -43,8 +43,8 @@ def show(point, title, places):
 
 show('1a', 'enums of two variants, as Option and Result have', two_variants())
 show('1b', 'bool fields of structs that say what a value beside them means', lines(r'^(pub(\(crate\))? )?(error|fits): bool,'.replace('^', r'^\s*')))
-show('1c', 'numbers where an enum, an IDN or a code has a name: compared', lines(r'number\(\) *(==|!=|<|>)|(==|!=|<|>|<=|>=) *[a-z.]+\.number\(\)|match idn\.0|idn\.0 (==|<=|<|>=)'))
-show('1d', 'numbers of IDNs where a constant has the name (outside rows of data and tests)', lines(r'Idn\((0x)?[0-9a-f]+\)', r'_tests/|blocks\.rt|sample\.rt|idns\.rt'))
+show('1c', 'numbers where an enum, an IDN or a code has a name: compared', lines(r'number\(\) *(==|!=|<|>)|(==|!=|<=|>=|<|(?<!=)>) *[a-z.]+\.number\(\)|match idn\.0|idn\.0 (==|<=|<|>=)'))
+show('1d', 'numbers of IDNs where a constant has the name (outside rows of data and tests)', lines(r'Idn\((0x)?[0-9a-f]+\)', r'_tests/|blocks\.rt|sample\.rt|idns\.rt|pub const NONE'))
 show('1e', 'numbers of codes and refusals', lines(r'0x1001|Refused\(u8\)|Refused\(refusal\.number', r'_tests/'))
 show('1f', 'faults as an Option, which the caller turns into an Err', lines(r'-> Option<(Digit|Refusal|Cause|ValueFault)>|^\) -> Option<(Digit|Refusal|Cause|ValueFault)>', r'_tests/'))
 twins = subprocess.run([sys.executable, os.path.join(os.path.dirname(__file__), 'twins.py')], capture_output=True, text=True).stdout.strip().split('\n')
@@ -53,7 +53,7 @@ show('3a', 'loops over the numbers of places', lines(r'\bfor \w+ in \w+\.\.'))
 show('3b', 'loops that count by hand', lines(r'\bwhile (?!let)'))
 show('4a', 'numbers of enums by a match', (f'{f}: {m.group(1)}' for f, t in TEXT.items() for m in re.finditer(r'fn (number|cause|bit)\(self\)[^{]*\{[^}]*\}?\s*\{\s*match self', t)))
 show('4b', 'enums from numbers by a match', lines(r'match self\.0 /'))
-show('4c', 'bytes of words and words of bytes by arithmetic', lines(r'256 \*|0x100 \*|% 256|/ 256|% 0x1_0000\) as u16'))
+show('4c', 'bytes of words and words of bytes by arithmetic', lines(r'256 \*|0x100 \*|% 256|/ 256|(?<!self\.0) % 0x1_0000\) as u16'))
 show('4d', 'comparisons by hand: parts, variants', lines(r'\.0 (==|<|>|<=|>=) \w+\.(idn\.)?0\b|a\.\w+ == b\.\w+|if let Phase::|^\s*(Some\()?\w+(::\w+)?( \| \w+(::\w+)?)+\)? => true,|Keeper::Drive => true'))
 show('4e', 'printing and conversion functions of enums', lines(r"-> &'static str|fn (value_digit|value_cause|print)\b"))
 show('5a', 'functions of more than four parameters', wide(4))
