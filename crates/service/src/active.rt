@@ -23,8 +23,8 @@ pub(crate) fn others_active<S: Store>(store: &S, place: usize) -> bool
 pub(crate) fn is_recalled<S: Store>(store: &S, out: Option<Idn>) -> bool
     ensures { result ≡ is_recalled (S.Store.blocks store.now) out }
 {
-    out.and_then(|idn| block_of(store, idn))
-        .is_some_and(|view| view.status == CommandStatus::Idle.number())
+    let block = out.and_then(|idn| block_of(store, idn));
+    block.is_some_and(|view| CommandStatus::try_from(view.status) == Ok(CommandStatus::Idle))
 }
 
 // The two-byte value of a block, if it is there and valid.

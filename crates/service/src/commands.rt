@@ -30,7 +30,7 @@ fn command_verdict<S: Store>(
 ) -> Result<u16, Digit>
     ensures { result ≡ command_verdict (phase_number standing.phase) standing.out (S.Store.blocks store.now) target.place target.head info }
 {
-    let Target { place, head } = target;
+    let Target { place, head, .. } = target;
     let busy = others_active(store, place);
     let recalled = is_recalled(store, standing.out);
     let runs = runs_in(head.idn, standing.phase);
@@ -75,15 +75,15 @@ impl<S: Store> Service<S> {
     }
 
     // A word that the command takes: its data are stored, and word 3 runs a check to its end.
-    fn take_word(&mut self, target: Target, n: u16, info: u16, status: u16)
-        ensures stock { stock_of (viewed S.Store.blocks self.new) ≡ commanded (S.Store.blocks self.old.store) self.old.mark target.place target.head.idn.0 (written_data target.head.attribute.0 n self.old.kept) info status }
+    fn take_word(&mut self, target: Target, info: u16, status: u16)
+        ensures stock { stock_of (viewed S.Store.blocks self.new) ≡ commanded (S.Store.blocks self.old.store) self.old.mark target.place target.head.idn.0 (written_data target.head.attribute.0 target.n self.old.kept) info status }
         ensures link { self.new.link ≡ self.old.link }
     {
-        let Target { place, head } = target;
+        let Target { place, head, n } = target;
         let _ = self
             .store
             .replace(place, self.kept.written(head.attribute, n));
-        if info == CommandWord::Start.number()
+        if CommandWord::try_from(info) == Ok(CommandWord::Start)
             && let Some(list) = run_check(&self.store, &mut self.kept, head.idn)
         {
             self.end_check(place, list);
@@ -97,13 +97,12 @@ impl<S: Store> Service<S> {
         &mut self,
         standing: Standing,
         target: Target,
-        n: u16,
         info: u16,
     ) -> Result<(), Digit>
-        ensures { last_replied (viewed S.Store.blocks self.new) result ≡ finish_command (phase_number standing.phase) standing.out (viewed S.Store.blocks self.old) self.old.link.ahs target.place target.head (written_data target.head.attribute.0 n self.old.kept) info }
+        ensures { last_replied (viewed S.Store.blocks self.new) result ≡ finish_command (phase_number standing.phase) standing.out (viewed S.Store.blocks self.old) self.old.link.ahs target.place target.head (written_data target.head.attribute.0 target.n self.old.kept) info }
     {
         let status = command_verdict(&self.store, standing, target, info)?;
-        self.take_word(target, n, info, status);
+        self.take_word(target, info, status);
         Ok(())
     }
 }

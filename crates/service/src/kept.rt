@@ -6,10 +6,13 @@ use block::attribute::Attribute;
 use block::value::word_at;
 use std::marker::Model;
 
+// How many bytes it holds.
+const MOST: usize = 1024;
+
 // stays: an array and a count, since a drive has no heap; whoever uses it sees the bytes that are kept
 #[derive(Drop)]
 pub struct Kept {
-    cells: [u8; 1024],
+    cells: [u8; MOST],
     count: usize,
 }
 
@@ -28,7 +31,7 @@ impl Kept {
         ensures { result ≡ [] }
     {
         Kept {
-            cells: [0; 1024],
+            cells: [0; MOST],
             count: 0,
         }
     }
@@ -44,7 +47,7 @@ impl Kept {
         ensures { self.new ≡ pushed self.old word }
     {
         let end = self.count + 2;
-        if end > 1024 {
+        if end > MOST {
             return;
         }
         self.cells[self.count..end].copy_from_slice(&word.to_le_bytes());

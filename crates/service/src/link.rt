@@ -52,10 +52,7 @@ impl Link {
     pub fn info(&self) -> u16
         ensures { result ≡ info_of self.now.answer }
     {
-        match self.answer {
-            Ok(word) => word,
-            Err(code) => code.number(),
-        }
+        self.answer.unwrap_or_else(Code::number)
     }
 }
 
@@ -81,11 +78,12 @@ pub(crate) struct Standing {
     pub(crate) out: Option<Idn>,
 }
 
-// The block that is written, by its place in the store.
+// The block that is written, by its place in the store, and of a list the length n.
 #[derive(Clone, Copy, PartialEq, Eq, Debug)]
 pub(crate) struct Target {
     pub(crate) place: usize,
     pub(crate) head: Head,
+    pub(crate) n: u16,
 }
 
 // What a write needs to know of a block.

@@ -2,8 +2,8 @@
 use crate::kept::Kept;
 use crate::link::Link;
 
-// stays: no Model. Tried: a view by the store's own blocks proves, but whoever sees only blocks and channel can no longer be
-// told which store a made drive holds, as making promises.
+// stays: no Model. Tried: a view by the store's own blocks proves, but then making could not promise which store a drive holds,
+// and a promise may not get weaker.
 #[derive(Drop)]
 pub struct Service<S> {
     pub store: S,

@@ -135,7 +135,7 @@ impl<S: Store> Service<S> {
     }
 
     // What a step comes to: element, direction and channel state decide.
-    // stays: one match on the three with guards, as the rules of the channel are told
+    // stays: one match with guards: the cases overlap and their order decides, which a table of closures would hide and be longer
     fn reply(&mut self, standing: Standing, control: Control, info: u16) -> Result<Reply, Code>
         ensures { replied (viewed S.Store.blocks self.new) result ≡ step_on (phase_number standing.phase) standing.out (viewed S.Store.blocks self.old) self.old.link.ahs (element_named (element_of control.0)) (is_write control.0) (is_last control.0) info }
     {
@@ -154,6 +154,7 @@ impl<S: Store> Service<S> {
     }
 
     // One step.
+    // stays: phase and order as two parameters, since the drive calls it so and a struct would only be taken apart
     pub fn step(&mut self, phase: Phase, out: Option<Idn>, control: Control, info: u16)
         ensures { viewed S.Store.blocks self.new ≡ step (phase_number phase) out (viewed S.Store.blocks self.old) control.0 info }
     {

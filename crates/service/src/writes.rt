@@ -9,7 +9,7 @@ ghost use Rattle.service.specs.Words.{written_data};
 
 use crate::changes::accept;
 use crate::kept::Kept;
-use crate::link::{Reply, Standing, Target, Transfer};
+use crate::link::{Head, Reply, Standing, Target, Transfer};
 use crate::service::Service;
 use crate::steps::{NOT_OPEN, next_word};
 use channel::code::{Code, Digit};
@@ -20,10 +20,10 @@ use store::value::check_value;
 
 impl<S: Store> Service<S> {
     // The right "last" of a write to a parameter.
-    fn finish_parameter(&mut self, target: Target, n: u16) -> Result<(), Digit>
-        ensures { last_replied (viewed S.Store.blocks self.new) result ≡ finish_parameter (viewed S.Store.blocks self.old) self.old.link.ahs target.place target.head (written_data target.head.attribute.0 n self.old.kept) }
+    fn finish_parameter(&mut self, target: Target) -> Result<(), Digit>
+        ensures { last_replied (viewed S.Store.blocks self.new) result ≡ finish_parameter (viewed S.Store.blocks self.old) self.old.link.ahs target.place target.head (written_data target.head.attribute.0 target.n self.old.kept) }
     {
-        let Target { place, head } = target;
+        let Target { place, head, n } = target;
         let bytes = self.kept.written(head.attribute, n);
         check_value(&self.store, head.attribute, head.limits, bytes)?;
         accept(&mut self.store, place, bytes);
@@ -32,13 +32,13 @@ impl<S: Store> Service<S> {
     }
 
     // The right "last" of a write.
-    fn finish(&mut self, standing: Standing, target: Target, n: u16, info: u16) -> Result<(), Digit>
-        ensures { last_replied (viewed S.Store.blocks self.new) result ≡ finish (phase_number standing.phase) standing.out (viewed S.Store.blocks self.old) self.old.link.ahs target.place target.head (written_data target.head.attribute.0 n self.old.kept) info }
+    fn finish(&mut self, standing: Standing, target: Target, info: u16) -> Result<(), Digit>
+        ensures { last_replied (viewed S.Store.blocks self.new) result ≡ finish (phase_number standing.phase) standing.out (viewed S.Store.blocks self.old) self.old.link.ahs target.place target.head (written_data target.head.attribute.0 target.n self.old.kept) info }
     {
         if target.head.attribute.is_command() {
-            self.finish_command(standing, target, n, info)
+            self.finish_command(standing, target, info)
         } else {
-            self.finish_parameter(target, n)
+            self.finish_parameter(target)
         }
     }
 
@@ -46,13 +46,13 @@ impl<S: Store> Service<S> {
     fn write_word(
         &mut self,
         standing: Standing,
-        target: Target,
+        place: usize,
+        head: Head,
         info: u16,
         last: bool,
     ) -> Result<Reply, Digit>
-        ensures { write_replied (viewed S.Store.blocks self.new) result ≡ write_step (phase_number standing.phase) standing.out (viewed S.Store.blocks self.old) self.old.link.ahs target.place target.head last info }
+        ensures { write_replied (viewed S.Store.blocks self.new) result ≡ write_step (phase_number standing.phase) standing.out (viewed S.Store.blocks self.old) self.old.link.ahs place head last info }
     {
-        let head = target.head;
         let transfer = self.link.transfer;
         let k = next_word(transfer, Element::Content, true);
         drop_others(&mut self.kept, transfer);
@@ -61,7 +61,7 @@ impl<S: Store> Service<S> {
         check_write(head.keeper, locked, head.attribute, head.most, n, k, last)?;
         self.kept.push(info);
         if last {
-            self.finish(standing, target, n, info)?;
+            self.finish(standing, Target { place, head, n }, info)?;
             return Ok(Reply::DONE);
         }
         Ok(Reply {
@@ -85,7 +85,7 @@ impl<S: Store> Service<S> {
         ensures { replied (viewed S.Store.blocks self.new) result ≡ with_block (viewed S.Store.blocks self.old) self.old.link.ahs (slice_get (S.Store.blocks self.old.store) place) (λ b. write_step (phase_number standing.phase) standing.out (viewed S.Store.blocks self.old) self.old.link.ahs place (head_of b) last info) }
     {
         let head = self.head_at(place).ok_or(NOT_OPEN)?;
-        let written = self.write_word(standing, Target { place, head }, info, last);
+        let written = self.write_word(standing, place, head, info, last);
         written.map_err(|digit| Code {
             element: Element::Content,
             digit,
