@@ -75,7 +75,7 @@ fn record(control: u16, info: u16) -> Line
 }
 
 // The value of a capital hexadecimal digit.
-// stays: a match by hand, since to_digit and from_str_radix take small letters too.
+// stays: a match by hand, since to_digit and from_str_radix take small letters too; with a filter for them it is no shorter.
 fn hex(c: u8) -> Option<u8>
     ensures { MatchOption result (is_hex c ≡ false) (λ v. (is_hex c ≡ true) × (v ≡ hex_value c) × (v < 16)) }
 {

@@ -4,11 +4,11 @@
 mod blocks;
 mod line;
 
-ghost use Rattle.std.specs.Prelude.{◌≡◌, None, IfOk};
-ghost use Rattle.bench.specs.Exchanges.{has_place, mdt_of, telegram_of, after_sent, shown_sent, shown_after};
+ghost use Rattle.std.specs.Prelude.{◌≡◌, None, IfOk, OnErr};
+ghost use Rattle.bench.specs.Exchanges.{has_place, mdt_of, after_sent, shown_sent, shown_after, after_line, shown_of};
 ghost use Rattle.drive.specs.Machines.{view};
 
-use drive::drive::Drive;
+use drive::drive::{ALL, Drive};
 use line::{Answer, Line, Shown};
 use refusal::Refusal;
 use rows::plan::Plan;
@@ -38,16 +38,6 @@ fn mdt<S: Store>(
     Ok(bytes)
 }
 
-// The telegram of a line.
-fn telegram<S: Store>(heap: Global, drive: &Drive<S>, line: Line) -> Result<Vec<u8>, AllocError>
-    ensures { IfOk result (λ t. has_place (view S.Store.blocks drive.now) → t.items ≡ telegram_of (view S.Store.blocks drive.now) line) }
-{
-    match line {
-        Line::Info(info) => Ok(vec![in heap; 255, info]?),
-        Line::Record { control, info } => mdt(heap, drive, control, info),
-    }
-}
-
 // What the next AT shows.
 fn next_at<S: Store>(drive: &Drive<S>) -> Result<Answer, Refusal>
     ensures { result ≡ shown_after None (view S.Store.blocks drive.now) }
@@ -75,6 +65,21 @@ fn exchange<S: Store>(drive: &mut Drive<S>, line: Line, telegram: &[u8]) -> Resu
     next_at(drive)
 }
 
+// Answers a line; only an MDT takes memory.
+fn answer<S: Store>(heap: Global, drive: &mut Drive<S>, line: Line) -> Result<Shown, AllocError>
+    ensures shown { IfOk result (λ s. has_place (view S.Store.blocks drive.old) → s.0 ≡ shown_of (view S.Store.blocks drive.old) line) }
+    ensures after { IfOk result (λ _. has_place (view S.Store.blocks drive.old) → view S.Store.blocks drive.new ≡ after_line (view S.Store.blocks drive.old) line) }
+    ensures err { OnErr result (view S.Store.blocks drive.new ≡ view S.Store.blocks drive.old) }
+{
+    match line {
+        Line::Info(info) => Ok(Shown(exchange(drive, line, &[ALL, info]))),
+        Line::Record { control, info } => {
+            let telegram = mdt(heap, drive, control, info)?;
+            Ok(Shown(exchange(drive, line, telegram.as_slice())))
+        }
+    }
+}
+
 // Answers every line of the input, whatever bytes it has.
 fn serve<S: Store>(rt: &HostRuntime, drive: &mut Drive<S>) -> io::Result<()> {
     let heap = rt.alloc();
@@ -84,8 +89,7 @@ fn serve<S: Store>(rt: &HostRuntime, drive: &mut Drive<S>) -> io::Result<()> {
             rt.println("?")?;
             continue;
         };
-        let telegram = telegram(heap, drive, line)?;
-        rt.println(Shown(exchange(drive, line, telegram.as_slice())))?;
+        rt.println(answer(heap, drive, line)?)?;
     }
     Ok(())
 }

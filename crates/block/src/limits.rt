@@ -11,6 +11,7 @@ pub struct Limits {
 }
 
 // The number of bit patterns of fixed data, and so the first number that does not fit.
+// stays: a match of its own, as the number of words of fixed data in channel has one: told by one another, both would be longer.
 fn pattern_count(attribute: Attribute) -> i64
     ensures { result ≡ pos (patterns attribute.0) }
 {

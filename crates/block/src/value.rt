@@ -5,6 +5,7 @@ ghost use Rattle.block.specs.Values.{cause_of, range_fault, ok_unless};
 
 use crate::attribute::Attribute;
 use crate::limits::{Limits, is_below};
+use std::array;
 
 #[derive(Clone, Copy, PartialEq, Eq, Debug)]
 pub enum ValueFault {
@@ -33,7 +34,7 @@ pub fn byte_at(bytes: &[u8], place: usize) -> u8
 pub fn pattern_of(bytes: &[u8]) -> u32
     ensures { result ≡ pattern bytes.now }
 {
-    u32::from_le_bytes([0, 1, 2, 3].map(|place| byte_at(bytes, place)))
+    u32::from_le_bytes(array::from_fn(|place| byte_at(bytes, place)))
 }
 
 // The word of two bytes from a place on, low byte first.
@@ -48,7 +49,7 @@ pub fn word_at(bytes: &[u8], place: usize) -> u16
 }
 
 // The first fault of a pattern against the limits, if any: below, then above.
-// stays: attribute and limits as two parameters, for the reason that stands at `form_kept`.
+// stays: attribute and limits as two parameters, for the reason that stands at form_kept in view.rt: they lie beside other parts.
 pub fn check_range(
     attribute: Attribute,
     limits: Option<Limits>,

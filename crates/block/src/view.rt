@@ -14,6 +14,10 @@ pub const UNIT_MOST: usize = 12;
 
 pub const LIST_MOST: u16 = 1020;
 
+// The most blocks that a store may show.
+pub const MOST_BLOCKS: usize = 510;
+
+// stays: name and unit as bytes, since they may hold any, and a &str would ask more of whoever lends them.
 #[derive(Clone, Copy, PartialEq, Eq, Debug)]
 pub struct View<'a> {
     pub idn: Idn,
@@ -37,6 +41,7 @@ impl View<'_> {
 }
 
 // Whether n bytes are a possible length of data of this attribute and maximum.
+// stays: attribute and maximum as two parameters, here and below, for the reason that stands at form_kept.
 pub fn length_fits(attribute: Attribute, most: u16, n: usize) -> bool
     ensures { result ≡ length_fits attribute.0 most n }
 {

@@ -82,6 +82,7 @@ impl TryFrom<u16> for CommandWord {
 }
 
 // stays: below, statuses and words come and go as plain words, since a block and a telegram may hold any.
+
 // Whether a command is interrupted or under way.
 pub fn is_active(status: u16) -> bool
     ensures { result ≡ is_active status }

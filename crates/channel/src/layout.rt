@@ -24,7 +24,7 @@ pub enum Layout<'v> {
 }
 
 // The words of fixed data and of limits.
-// stays: a match of its own, though the number of bit patterns in block has the same shape: neither is told by the other
+// stays: a match of its own, as the number of bit patterns in block has one: told by one another, both would be longer.
 pub fn fixed_words(attribute: Attribute) -> u16
     ensures { result ≡ fixed_words attribute.0 }
 {

@@ -51,7 +51,7 @@ pub fn record_place(position: u16, size: u16) -> bool
 }
 
 // Whether a rule on one, two or three timings is tested, since all of them are valid, and fails.
-// stays: a function for each number of timings, since one over a tuple would have each rule take its timings out of it again.
+// stays: a function for each number of timings, as the definitions have it; one over a tuple would have each rule take its timings out again.
 fn fails1<F: Fn(u16) -> bool>(rule: F, x: Option<u16>) -> bool
     requires { F.IsAlwaysCallable rule }
     ensures { (p : ℕ → Bool) → ((a : ℕ) (r : Bool) → F.post rule a r → r ≡ p a) → result ≡ fails1 p x }

@@ -3,6 +3,9 @@ use block::idn::Idn;
 use block::phase::Phase;
 use service::service::Service;
 
+// The address of a telegram to all drives.
+pub const ALL: u8 = 255;
+
 // Which telegrams were missed last: one miss of each kind may be running.
 #[derive(Clone, Copy, PartialEq, Eq, Default, Debug)]
 pub struct Misses {
@@ -10,7 +13,7 @@ pub struct Misses {
     pub mdt: bool,
 }
 
-// stays: no Model, for the reason that stands at Service
+// stays: no Model, for the reason that stands at Service in service/src/service.rt.
 #[derive(Drop)]
 pub struct Drive<S> {
     pub(crate) address: u8,

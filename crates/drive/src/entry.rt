@@ -114,7 +114,7 @@ impl<S: Store> Drive<S> {
             self.miss_mst();
             return;
         };
-        // stays: the numbers are compared where a phase is raised by one, since a step by one is a sum
+        // stays: INFO is compared as a number below, since the next phase is a sum and an enum has none.
         match phase.cmp(&self.phase) {
             Ordering::Equal => self.misses.mst = false,
             Ordering::Less if phase == Phase::Zero => {

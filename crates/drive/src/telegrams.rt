@@ -5,7 +5,7 @@ ghost use Rattle.channel.specs.Controls.{upper_bits};
 ghost use Rattle.drive.specs.Machines.{view};
 ghost use Rattle.drive.specs.Telegrams.{mst_answer, mst_after, is_shared, mdt_size, mdt_address, record_start, mdt_refusal, mdt_taken, record_of, control_of, mdt_answer, mdt_after};
 
-use crate::drive::Drive;
+use crate::drive::{ALL, Drive};
 use crate::phases::value_at;
 use block::idns::{MDT_LENGTH, RECORD_POSITION};
 use block::phase::Phase;
@@ -13,9 +13,6 @@ use block::value::word_at;
 use channel::control::Control;
 use refusal::Refusal;
 use store::store::Store;
-
-// The address of a telegram to all drives.
-const ALL: u8 = 255;
 
 impl<S: Store> Drive<S> {
     // The master's synchronization telegram: the address of all and INFO.
@@ -79,7 +76,7 @@ impl<S: Store> Drive<S> {
         if telegram.len() != self.mdt_size() {
             return Err(Refusal::Length);
         }
-        if telegram[0] != self.mdt_address() {
+        if telegram.first() != Some(&self.mdt_address()) {
             return Err(Refusal::Addressee);
         }
         Ok(())

@@ -6,6 +6,7 @@ use rows::plan::Plan;
 use table::table::Table;
 
 // Why no drive is made over a store of the first rows: number and IDN.
+// stays: numbers and an Option, so that the values that the test expects stay as they were.
 fn made(address: u8, count: usize) -> Option<(u8, Option<Idn>)> {
     let n = count.min(17);
     let plan = Plan::new(&ROWS[0..n]);

@@ -1,13 +1,10 @@
 // Plays a table of steps against a drive: what is sent, and what it shows then.
-use crate::sample::{ROWS, memory, states};
 use block::idn::Idn;
 use drive::drive::Drive;
 use refusal::Refusal;
-use rows::plan::Plan;
 use std::process::Abort;
 use std::test::Fail;
 use store::store::Store;
-use table::table::Table;
 
 #[derive(Clone, Copy)]
 pub enum Sent {
@@ -26,6 +23,7 @@ pub enum Sent {
 }
 
 // The status word and the info of an AT.
+// stays: read here as the bench reads it, since a program hands on no functions.
 #[derive(Clone, Copy, PartialEq, Eq, Debug)]
 pub struct At(pub u16, pub u16);
 
@@ -83,12 +81,4 @@ pub fn make<S: Store + Drop>(address: u8, store: S) -> Result<Drive<S>, Refusal>
 pub fn play<S: Store + Drop>(rt: &impl Abort, store: S, steps: &[Step]) -> Result<(), Fail> {
     let mut drive = make(1, store)?;
     follow(rt, &mut drive, steps)
-}
-
-// The same over the sample's blocks as they are at first.
-pub fn play_sample(rt: &impl Abort, steps: &[Step]) -> Result<(), Fail> {
-    let plan = Plan::new(&ROWS);
-    let mut states = states();
-    let mut bytes = memory();
-    play(rt, Table::new(&plan, &mut states, &mut bytes), steps)
 }

@@ -1,6 +1,6 @@
 // Reports of the firmware, and the text that follows S-0-0011.
 use crate::play::Sent::{Mdt, Mst, Report};
-use crate::play::{At, Step, make, play_sample};
+use crate::play::{At, Step, make, play};
 use crate::sample::{ROWS, memory, states};
 use block::idn::Idn;
 use refusal::{Cause, Refusal};
@@ -47,7 +47,10 @@ static STEPS: [Step; 26] = [
 
 #[test]
 fn reports_set_the_diagnostic_text(rt: HostRuntime) -> Result<(), Fail> {
-    play_sample(&rt, &STEPS)
+    let plan = Plan::new(&ROWS);
+    let mut states = states();
+    let mut bytes = memory();
+    play(&rt, Table::new(&plan, &mut states, &mut bytes), &STEPS)
 }
 
 // What a drive over a store says to a report.

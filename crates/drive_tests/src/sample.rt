@@ -5,6 +5,7 @@ use block::keeper::Keeper;
 use block::limits::Limits;
 use rows::row::{Row, State};
 
+// stays: IDNs as numbers, so that the tests do not rest on the names.
 const TIMING: Attribute = Attribute(0x0011_0001);
 
 const WORD: Attribute = Attribute(0x0001_0001);

@@ -7,11 +7,8 @@ ghost use Rattle.joined.specs.Bounds.{joined_few, joined_sound};
 ghost use Rattle.joined.specs.Joining.{is_whole, joined_blocks, left_out, found_behind, side_of};
 
 use block::idn::Idn;
-use block::view::View;
+use block::view::{MOST_BLOCKS, View};
 use store::store::Store;
-
-// The most blocks that a store may show.
-const MOST_BLOCKS: usize = 510;
 
 // Holds both stores by value, and may be joined again.
 #[derive(Drop)]

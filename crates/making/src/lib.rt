@@ -27,6 +27,7 @@ pub fn check<S: Store>(address: u8, store: &S) -> Result<(), Refusal>
 }
 
 // A refusal that may be there is the error.
+// stays: the rules give the IDN that they found or none, since two of them are searches that are joined by the lower of both.
 fn refuse(refusal: Option<Refusal>) -> Result<(), Refusal>
     ensures { result ≡ ok_unless refusal }
 {

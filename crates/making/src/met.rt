@@ -19,6 +19,7 @@ fn is_zero(bytes: &[u8]) -> bool
 }
 
 // Data 0 and status 0, as of a command that has not been started.
+// stays: the status as a number, since its bits are tested and a block may hold any.
 pub fn is_idle(view: View) -> bool
     ensures { result ≡ is_idle (seen view.entry) }
 {

@@ -7,6 +7,8 @@ use block::value::pattern_of;
 use block::view::View;
 use std::alloc::{AllocError, Global};
 
+// stays: texts by functions, since a text needs the attribute beside the data, and a Display for the pair would be a struct more for each.
+
 // Bytes as text: what is not printable ASCII shows as a dot.
 fn printable(heap: Global, bytes: &[u8]) -> Result<String, AllocError> {
     bytes
@@ -93,7 +95,7 @@ pub fn line(heap: Global, view: View<'_>) -> Result<String, AllocError> {
     let form = form_text(heap, view.attribute)?;
     let limits = limits_text(heap, view.attribute, view.limits)?;
     let data = data_text(heap, view.attribute, view.content)?;
-    let valid = valid_word(&view);
+    let valid = valid_word(view.status);
     let name = printable(heap, view.name)?;
     let mut text = format!(in heap;
         "{idn}  {keeper:<7}  {form:<23}  {limits:<11}  {valid:<7}  {name}: {data}"

@@ -25,6 +25,7 @@ fn lines<S: Store>(heap: Global, store: &S) -> Result<Vec<String>, AllocError> {
 }
 
 // Does something to one block, and tells what it came to.
+// stays: six parameters, which the two callers below fill in and nobody else.
 fn change<S: Store, F: FnOnce(&mut S, usize) -> bool>(
     rt: &HostRuntime,
     store: &mut S,

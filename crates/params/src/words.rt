@@ -1,11 +1,11 @@
 // The words for keepers, types, lengths and validity.
-// stays: words by functions, since they belong to this listing alone and a Display would have to lie in the crate of its type.
+// stays: words by functions, since they belong to this listing alone and a Display would have to lie in the crate of its type, or
+// in a newtype of each, which is longer.
 ghost use Rattle.std.specs.Prelude.{◌≡◌};
 ghost use Rattle.params.specs.Words.{keeper_word, type_word, length_words, valid_word};
 
 use block::attribute::{DataType, LengthCode};
 use block::keeper::Keeper;
-use block::view::View;
 
 pub fn keeper_word(keeper: Keeper) -> &'static str
     ensures { result.now ≡ keeper_word keeper }
@@ -43,10 +43,10 @@ pub fn length_words(code: LengthCode) -> &'static str
     }
 }
 
-pub fn valid_word(view: &View<'_>) -> &'static str
-    ensures { result.now ≡ valid_word view.now.status }
+pub fn valid_word(status: u16) -> &'static str
+    ensures { result.now ≡ valid_word status }
 {
-    if view.is_invalid() {
+    if status / 0x100 % 2 == 1 {
         "invalid"
     } else {
         "valid"

@@ -4,12 +4,13 @@ ghost use Rattle.rows.specs.Rows.{laid_out, size_of, ascends, row_idn, planned};
 
 use crate::plan::Plan;
 use crate::row::Row;
+use block::view::MOST_BLOCKS;
 
 // The bytes of all areas together, where the rows keep the rules.
 fn measure(rows: &[Row]) -> Option<usize>
     ensures { MatchOption result (laid_out rows.now ≡ false) (λ n. (laid_out rows.now ≡ true) × (n ≡ size_of rows.now)) }
 {
-    if rows.len() > 510 {
+    if rows.len() > MOST_BLOCKS {
         return None;
     }
     let mut from = 0;

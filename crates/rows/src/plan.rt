@@ -5,6 +5,7 @@ ghost use Rattle.rows.specs.Rows.{laid_from, size_of, ascends, row_idn};
 
 use crate::row::Row;
 
+// stays: a flag, since it notes a test that is made once, and the invariant says what it means.
 #[derive(Clone, Copy)]
 pub struct Plan<'r> {
     pub(crate) rows: &'r [Row<'r>],

@@ -6,6 +6,7 @@ use crate::plan::Plan;
 use crate::row::State;
 
 // Parts that match: a state for each row, and bytes for all areas.
+// stays: three slices beside one another, for the reason that stands at Row.
 #[derive(Clone, Copy)]
 pub struct Sheet<'a> {
     pub(crate) plan: Plan<'a>,

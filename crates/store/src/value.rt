@@ -25,6 +25,7 @@ pub fn idns_known<S: Store>(store: &S, bytes: &[u8]) -> bool
         .all(|pair| idn_known(store, Idn(word_at(pair, 0))))
 }
 
+// stays: attribute and limits as two parameters, since views and heads hold them beside other parts.
 // The check of data for a block of this attribute and these limits; the error is the first fault: below, above, unknown IDN.
 pub fn check_value<S: Store>(
     store: &S,

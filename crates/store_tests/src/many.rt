@@ -11,12 +11,9 @@ use table::table::Table;
 
 // Rows of two bytes each, with ascending IDNs from the first on.
 fn rows_from(heap: Global, first: u16, n: u16) -> Result<Vec<Row<'static>>, AllocError> {
-    let mut rows = Vec::new(heap);
-    // stays: a range, since the number of a row makes its IDN and its place
-    for i in 0..n {
-        rows.push(fixed(first.wrapping_add(i), 2 * usize::from(i)))?;
-    }
-    Ok(rows)
+    (0..n)
+        .map(|i| fixed(first.wrapping_add(i), 2 * usize::from(i)))
+        .collect(heap)
 }
 
 // How many of these rows a table with enough memory shows.

@@ -22,6 +22,7 @@ fn limited(attribute: Attribute, lower: u32, upper: u32) -> Row<'static> {
 struct NoBlock;
 
 // What the check of a value says for the first block of a store.
+// stays: the fault as an Option, here and below, so that the values that the tests expect stay as they were.
 fn first_fault<S: Store>(store: &S, bytes: &[u8]) -> Result<Option<ValueFault>, NoBlock> {
     let view = store.block(0).ok_or(NoBlock)?;
     Ok(check_value(store, view.attribute, view.limits, bytes).err())

@@ -1,10 +1,14 @@
 -- Blocks that are shown as kept by nobody: the same places and parts, and none may change. Assumes nothing.
-use Rattle.std.proofs.Common.{◌≡◌, ℕ, zero, suc, false, cond, eqb, List, [], ◌∷◌, map, Some, None, Option, refl, ap, ◌∙◌}
+use Rattle.std.proofs.Common.{◌≡◌, ℕ, zero, suc, false, cond, eqb, List, [], ◌∷◌, length, map, Some, None, Option, refl, ap, ◌∙◌}
+use Rattle.std.proofs.lemmas.List.{length-map}
 use Rattle.std.specs.List.{slice_get}
 use Rattle.std.specs.Option.{option_map}
 use Rattle.block.specs.Blocks.{Block}
 use Rattle.block.specs.Lists.{place_of, may_replace, may_mark}
 use Rattle.rows.specs.Shown.{nobodys}
+
+pub length-nobodys : (bs : List Block) → length (map nobodys bs) ≡ length bs
+length-nobodys bs = length-map bs nobodys
 
 pub place-nobodys : (bs : List Block) (n : ℕ) → place_of (map nobodys bs) n ≡ place_of bs n
 place-nobodys [] n = refl

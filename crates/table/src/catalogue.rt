@@ -13,8 +13,8 @@ use rows::sheet::Sheet;
 use rows::shown::states_fit;
 use store::store::Store;
 
-// stays: its parts and not the sheet that they make. A struct with an invariant, as a sheet is, can stand by value in no store
-// that is joined to a table, whose memory is lent for writing: tried, and the checker covers no call at such a type.
+// stays: holds its parts and not a Sheet, since a struct with an invariant cannot be joined by value to a table. Tried: the checker
+// covers no call at that type.
 #[derive(Clone, Copy)]
 pub struct Catalogue<'a> {
     pub(crate) plan: &'a Plan<'a>,

@@ -16,7 +16,7 @@ use rows::shown::states_fit;
 use store::store::Store;
 
 // stays: rows, states and bytes lie beside one another, since the caller lends the memory and a drive has no heap; and `fits`
-// is a flag, since a struct over memory that is lent for writing can hold no invariant about it and still be joined by value.
+// is a flag, since a struct over memory that is lent for writing can hold no invariant about it and still be joined by value: tried.
 #[derive(Drop)]
 pub struct Table<'p, 'r, 'a> {
     pub(crate) plan: &'p Plan<'r>,
