@@ -43,6 +43,7 @@ impl<S: Store> Service<S> {
     }
 
     // One word of a write to a block.
+    // stays: five parameters, here and below, since a Target can be made only once its n is known.
     fn write_word(
         &mut self,
         standing: Standing,
