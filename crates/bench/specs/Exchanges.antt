@@ -64,6 +64,11 @@ telegram_of m (Record control info) = mdt_of m control info
 abbrev pub has_place : Machine → Type 0
 has_place m = record_start m + 4 ≤ mdt_size m
 
+-- a line has its telegram: an MST always, a record where it has its place
+abbrev pub has_telegram : Machine → Line → Type 0
+has_telegram m (Info info) = Unit {0}
+has_telegram m (Record control info) = has_place m
+
 abbrev pub answer : ℕ → ℕ → Answer
 answer status info = record { status = status; info = info }
 

@@ -5,7 +5,7 @@ mod blocks;
 mod line;
 
 ghost use Rattle.std.specs.Prelude.{◌≡◌, None, IfOk, OnErr};
-ghost use Rattle.bench.specs.Exchanges.{has_place, mdt_of, after_sent, shown_sent, shown_after, after_line, shown_of};
+ghost use Rattle.bench.specs.Exchanges.{has_place, has_telegram, mdt_of, after_sent, shown_sent, shown_after, after_line, shown_of};
 ghost use Rattle.drive.specs.Machines.{view};
 
 use drive::drive::{ALL, Drive};
@@ -67,8 +67,8 @@ fn exchange<S: Store>(drive: &mut Drive<S>, line: Line, telegram: &[u8]) -> Resu
 
 // Answers a line; only an MDT takes memory.
 fn answer<S: Store>(heap: Global, drive: &mut Drive<S>, line: Line) -> Result<Shown, AllocError>
-    ensures shown { IfOk result (λ s. has_place (view S.Store.blocks drive.old) → s.0 ≡ shown_of (view S.Store.blocks drive.old) line) }
-    ensures after { IfOk result (λ _. has_place (view S.Store.blocks drive.old) → view S.Store.blocks drive.new ≡ after_line (view S.Store.blocks drive.old) line) }
+    ensures shown { IfOk result (λ s. has_telegram (view S.Store.blocks drive.old) line → s.0 ≡ shown_of (view S.Store.blocks drive.old) line) }
+    ensures after { IfOk result (λ _. has_telegram (view S.Store.blocks drive.old) line → view S.Store.blocks drive.new ≡ after_line (view S.Store.blocks drive.old) line) }
     ensures err { OnErr result (view S.Store.blocks drive.new ≡ view S.Store.blocks drive.old) }
 {
     match line {
