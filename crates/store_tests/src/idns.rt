@@ -53,10 +53,10 @@ fn shows_idns(rt: HostRuntime) -> Result<(), Fail> {
     Ok(())
 }
 
+// stays: a range, since every number is an IDN.
 #[test]
 fn reads_back_every_idn(rt: HostRuntime) -> Result<(), Fail> {
     let heap = rt.alloc();
-    // stays: a range, since every number is an IDN
     for n in 0..=u16::MAX {
         let idn = Idn(n);
         let text = format!(in heap; "{idn}")?;
