@@ -1,8 +1,10 @@
 -- One word of a write, put together from the verdicts on it. Assumes nothing.
-use Rattle.std.proofs.Common.{◌≡◌, ℕ, Bool, true, cond, List, Ok, Err, Some, None, Option, refl, sym, ap, ◌∙◌}
+use Rattle.std.proofs.Common.{◌≡◌, ℕ, ◌<◌, ◌≤◌, Bool, true, cond, List, Ok, Err, Some, None, Option, refl, sym, ap, ◌∙◌, arith}
 use Rattle.std.specs.Option.{option_map}
 use Rattle.std.proofs.lemmas.Bool.{cond-true}
+use Rattle.std.proofs.lemmas.Bool.Decides.{nat_tests}
 use Rattle.block.specs.declared.idn.Idn.{Idn}
+use Rattle.block.specs.declared.keeper.Keeper.{Keeper}
 use Rattle.block.specs.Blocks.{Block}
 use Rattle.block.specs.Values.{ok_unless}
 use Rattle.channel.specs.declared.code.Digit.{Digit}
@@ -46,6 +48,9 @@ module _ (phase : ℕ) (out : Option Idn) (s : State) (ahs : Bool) (place : ℕ)
       → finish phase out s ahs place h (written_data h.attribute.0 n words) info ≡ write_step phase out s ahs place h last info
   unfolding rule
   write_last words e el ew = rw ew (sym (cond-true last _ _ el) ∙ word_is None (passed _ e))
+
+pub write_few : (keeper : Keeper) (locked : Bool) (a most n k : ℕ) (last : Bool) → None ≡ write_rule keeper locked a most n k last → n < 0x1_0000 → k ≤ 40000
+write_few keeper locked a most n k last e small = grind (arith, nat_tests)
 
 -- what is done with the head of a block
 pub with_head : (s : State) (ahs : Bool) (o : Option Block) (h : Head) (F : Head → State) → Some h ≡ option_map head_of o

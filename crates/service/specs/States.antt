@@ -2,8 +2,6 @@
 use Rattle.std.specs.Prelude.{ℕ, ◌+◌, Bool, true, false, cond, ◌&&◌, List, [], Some, None, Ok, Err, Option, Result, ◌==◌}
 use Rattle.std.specs.Result.{is_err}
 use Rattle.block.specs.Blocks.{Block}
-use Rattle.channel.specs.declared.code.Code.{Code}
-use Rattle.channel.specs.Codes.{code_of}
 use Rattle.channel.specs.Controls.{element_number}
 use Rattle.service.specs.declared.link.Head.{Head}
 use Rattle.service.specs.declared.link.Link.{Link}
@@ -18,10 +16,10 @@ pub record Channel : Type 0 where
   pub error : Bool
   pub info : ℕ
 
--- what an answer puts into the service info: its word, or the number of its code
-abbrev pub info_of : Result ℕ Code → ℕ
+-- what an answer puts into the service info: its word, or the number of a code, which is any number
+abbrev pub info_of : Result ℕ ℕ → ℕ
 info_of (Ok word) = word
-info_of (Err code) = code_of (element_number code.element) code.digit
+info_of (Err code) = code
 
 abbrev pub channel_of : Link → Channel
 channel_of l = record { ahs = l.ahs; place = l.place; transfer = l.transfer; error = is_err l.answer; info = info_of l.answer }

@@ -44,7 +44,8 @@ impl Kept {
 
     // One word more, low byte first, as far as the memory goes.
     pub fn push(&mut self, word: u16)
-        ensures { self.new ≡ pushed self.old word }
+        ensures value { self.new ≡ pushed self.old word }
+        ensures within { length self.new ≤ 1024 }
     {
         let end = self.count + 2;
         if end > MOST {
@@ -62,14 +63,16 @@ impl Kept {
     }
 
     pub fn is_empty(&self) -> bool
-        ensures { result ≡ (length self.now == 0) }
+        ensures value { result ≡ (length self.now == 0) }
+        ensures within { length self.now ≤ 1024 }
     {
         self.count == 0
     }
 
     // The data in the words of a write: of a list the n bytes after n and m.
     pub fn written(&self, attribute: Attribute, n: u16) -> &[u8]
-        ensures { result.now ≡ written_data attribute.0 n self.now }
+        ensures value { result.now ≡ written_data attribute.0 n self.now }
+        ensures within { length self.now ≤ 1024 }
     {
         let bytes = self.bytes();
         if !attribute.is_list() {
@@ -81,12 +84,10 @@ impl Kept {
 
     // The length n of a list that is written: its first word, which is the info of step 1.
     pub fn written_length(&self, k: usize, info: u16) -> u16
-        ensures { result ≡ written_length k self.now info }
+        ensures value { result ≡ written_length k self.now info }
+        ensures within { length self.now ≤ 1024 }
     {
-        if k == 1 {
-            info
-        } else {
-            word_at(self.bytes(), 0)
-        }
+        let bytes = self.bytes();
+        if k == 1 { info } else { word_at(bytes, 0) }
     }
 }

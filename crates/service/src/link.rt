@@ -10,7 +10,6 @@ use block::keeper::Keeper;
 use block::limits::Limits;
 use block::phase::Phase;
 use block::view::View;
-use channel::code::Code;
 use channel::control::Element;
 
 // A run of steps on one element in one direction, and how many words it had.
@@ -36,7 +35,8 @@ pub struct Link {
     // the open block, by its place in the store
     pub place: Option<usize>,
     pub transfer: Option<Transfer>,
-    pub answer: Result<u16, Code>,
+    // a word, or the number of a code
+    pub answer: Result<u16, u16>,
 }
 
 impl Link {
@@ -52,7 +52,7 @@ impl Link {
     pub fn info(&self) -> u16
         ensures { result ≡ info_of self.now.answer }
     {
-        self.answer.unwrap_or_else(Code::number)
+        self.answer.unwrap_or_else(|number| number)
     }
 }
 

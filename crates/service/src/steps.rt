@@ -1,5 +1,5 @@
 // One step of the service channel.
-ghost use Rattle.std.specs.Prelude.{◌≡◌, false, Err};
+ghost use Rattle.std.specs.Prelude.{◌≡◌, ◌≤◌, false, length, Err};
 ghost use Rattle.std.specs.List.{slice_get};
 ghost use Rattle.std.specs.Option.{option_map};
 ghost use Rattle.block.specs.Blocks.{seen};
@@ -66,7 +66,7 @@ impl<S: Store> Service<S> {
         ensures { viewed S.Store.blocks self.new ≡ replied (viewed S.Store.blocks self.old) reply }
     {
         self.link.transfer = reply.ok().and_then(|reply| reply.goes_on);
-        self.link.answer = reply.map(|reply| reply.word);
+        self.link.answer = reply.map(|reply| reply.word).map_err(Code::number);
         if !self.link.transfer.is_some_and(|transfer| transfer.write) {
             self.kept.clear();
         }
@@ -156,10 +156,13 @@ impl<S: Store> Service<S> {
     // One step.
     // stays: phase and order as two parameters, since the drive calls it so and a struct would only be taken apart
     pub fn step(&mut self, phase: Phase, out: Option<Idn>, control: Control, info: u16)
-        ensures { viewed S.Store.blocks self.new ≡ step (phase_number phase) out (viewed S.Store.blocks self.old) control.0 info }
+        ensures value { viewed S.Store.blocks self.new ≡ step (phase_number phase) out (viewed S.Store.blocks self.old) control.0 info }
+        ensures within { length self.new.kept ≤ 1024 }
     {
         self.link.ahs = control.handshake();
         let reply = self.reply(Standing { phase, out }, control, info);
         self.end(reply);
+        // for `within`: only Kept tells how much it holds
+        let _ = self.kept.bytes();
     }
 }

@@ -11,7 +11,7 @@ returns-in_err-check_write g c =
     rw (p.1, p.2)
     (write_refused (phase_number c.args.standing.phase) c.args.standing.out (viewed g.S.Store.blocks c.args.self.now) _ c.args.place c.args.head c.args.last
     c.args.info c.next_word-k.result c.written_length-n.result c.drop_others.new.kept c.is_locked-locked.result
-    c.next_word-k.ensures c.drop_others.ensures c.written_length-n.ensures c.is_locked-locked.ensures c.in_err-check_write.field-0.0 c.in_err-check_write.ensures)
+    c.next_word-k.ensures c.drop_others.ensures c.written_length-n.ensures.value c.is_locked-locked.ensures c.in_err-check_write.field-0.0 c.in_err-check_write.ensures)
 
 pub returns-in_err-finish : goal.returns-in_err-finish
 returns-in_err-finish g c =
@@ -20,11 +20,11 @@ returns-in_err-finish g c =
     (c.in_err-finish.ensures
     ∙ write_last (phase_number c.args.standing.phase) c.args.standing.out (viewed g.S.Store.blocks c.args.self.now) _ c.args.place c.args.head c.args.last
     c.args.info c.next_word-k.result c.written_length-n.result c.drop_others.new.kept c.is_locked-locked.result
-    c.next_word-k.ensures c.drop_others.ensures c.written_length-n.ensures c.is_locked-locked.ensures c.push.new.self c.in_ok-check_write.ensures c.if-last.true c.push.ensures)
+    c.next_word-k.ensures c.drop_others.ensures c.written_length-n.ensures.value c.is_locked-locked.ensures c.push.new.self c.in_ok-check_write.ensures c.if-last.true c.push.ensures.value)
 
 pub returns-then-last : goal.returns-then-last
 returns-then-last g c =
     c.in_ok-finish.ensures
     ∙ write_last (phase_number c.args.standing.phase) c.args.standing.out (viewed g.S.Store.blocks c.args.self.now) _ c.args.place c.args.head c.args.last
     c.args.info c.next_word-k.result c.written_length-n.result c.drop_others.new.kept c.is_locked-locked.result
-    c.next_word-k.ensures c.drop_others.ensures c.written_length-n.ensures c.is_locked-locked.ensures c.push.new.self c.in_ok-check_write.ensures c.if-last.true c.push.ensures
+    c.next_word-k.ensures c.drop_others.ensures c.written_length-n.ensures.value c.is_locked-locked.ensures c.push.new.self c.in_ok-check_write.ensures c.if-last.true c.push.ensures.value
