@@ -14,6 +14,12 @@ length-changed [] place f = refl
 length-changed (b ∷ bs) zero f = refl
 length-changed (b ∷ bs) (suc place) f = ap suc (length-changed bs place f)
 
+-- a change past the end is none
+pub changed_past : (bs : List Block) (place : ℕ) (f : Block → Block) → length bs ≤ place → changed bs place f ≡ bs
+changed_past [] place f h = refl
+changed_past (b ∷ bs) zero f h = absurd (omega arith)
+changed_past (b ∷ bs) (suc place) f h = ap (λ l. b ∷ l) (changed_past bs place f (omega arith))
+
 -- a change within the first list
 pub changed_left : (bs cs : List Block) (place : ℕ) (f : Block → Block) → place < length bs
     → changed (bs ++ cs) place f ≡ changed bs place f ++ cs
