@@ -45,10 +45,16 @@ fn list_text(
 ) -> Result<String, AllocError> {
     let items = bytes
         .chunks(item.max(1))
-        .map(|one| item_text(heap, attribute, pattern_of(one)))
-        .try_collect::<Vec<String>>(heap)?;
-    let items = items.as_slice().join(heap, " ")?;
-    format!(in heap; "[{items}]")
+        .map(|one| item_text(heap, attribute, pattern_of(one)));
+    let mut text = String::from_str(heap, "[")?;
+    for (i, shown) in items.enumerate() {
+        if i > 0 {
+            text.push(' ')?;
+        }
+        text.push_str(shown?.as_str())?;
+    }
+    text.push(']')?;
+    Ok(text)
 }
 
 // The operation data as their attribute says.
