@@ -69,6 +69,7 @@ fn status_fits(attribute: Attribute, status: u16) -> bool
 }
 
 // The status fits, what nobody can make valid is valid, and the data pass, invalid ones too.
+#[tactic(auto, using(crate::proofs::Scans::ok_is))]
 fn content_fits<S: Store>(store: &S, view: View) -> bool
     ensures { result ≡ content_fits (S.Store.blocks store.now) (seen view.entry) }
 {

@@ -28,6 +28,7 @@ pub struct Table<'p, 'r, 'a> {
 
 impl<'p, 'r, 'a> Table<'p, 'r, 'a> {
     // A table over rows that were checked; states or memory that do not match them mean no blocks.
+    #[tactic(auto, using(rows::proofs::Sheets::made_means))]
     pub fn new(
         plan: &'p Plan<'r>,
         states: &'a mut [State],
