@@ -9,6 +9,7 @@ mod commands;
 mod elements;
 #[cfg(test)]
 mod makings;
+pub mod mdt_record;
 #[cfg(test)]
 mod play;
 #[cfg(test)]

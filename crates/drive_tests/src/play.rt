@@ -1,4 +1,5 @@
 // Plays a table of steps against a drive: what is sent, and what it shows then.
+use crate::mdt_record::record;
 use block::idn::Idn;
 use drive::drive::Drive;
 use refusal::Refusal;
@@ -30,13 +31,6 @@ pub struct At(pub u16, pub u16);
 // What is sent, and then the next AT, or why there is none.
 #[derive(Clone, Copy)]
 pub struct Step(pub Sent, pub Result<At, Refusal>);
-
-// Control word and info, low bytes first.
-fn record(control: u16, info: u16) -> [u8; 4] {
-    let [a, b] = control.to_le_bytes();
-    let [c, d] = info.to_le_bytes();
-    [a, b, c, d]
-}
 
 fn send<S: Store>(drive: &mut Drive<S>, sent: Sent) -> Result<(), Refusal> {
     match sent {
