@@ -1,5 +1,6 @@
 // Catalogues, which nobody changes, and stores that are joined in one way or the other.
-use crate::make::{TEXT, fixed, has_content, keeper_at, row, state, status_at};
+use crate::asking::{keeper_at, status_at};
+use crate::make::{TEXT, fixed, has_content, row, state};
 use block::idn::Idn;
 use block::keeper::Keeper;
 use joined::Joined;

@@ -1,6 +1,7 @@
 // Examples of what the blocks and the stores do; each is proved and then run.
 #![tactic(auto)]
 
+pub mod asking;
 #[cfg(test)]
 mod attributes;
 #[cfg(test)]

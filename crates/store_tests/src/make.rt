@@ -54,15 +54,3 @@ pub fn shown<'r>(rows: &'r [Row<'r>], states: &mut [State], bytes: &mut [u8]) ->
 pub fn has_content<S: Store>(store: &S, place: usize, bytes: &[u8]) -> bool {
     store.block(place).is_some_and(|view| view.content == bytes)
 }
-
-// stays: one line for each part that is asked for, which a closure as a parameter would not shorten.
-
-// Who keeps the block at a place.
-pub fn keeper_at<S: Store>(store: &S, place: usize) -> Option<Keeper> {
-    store.block(place).map(|view| view.keeper)
-}
-
-// The data status of the block at a place.
-pub fn status_at<S: Store>(store: &S, place: usize) -> Option<u16> {
-    store.block(place).map(|view| view.status)
-}
